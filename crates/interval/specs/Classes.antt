@@ -1,0 +1,14 @@
+-- The four sign classes.
+use mathlib.Core.Bool.{cond, _&&_}
+use lib.IntN.{ℤ, pos}
+use lib.Signed.{leZ, ltZ}
+use Rattle.interval.specs.declared.directed.Interval.{Interval}
+use Rattle.interval.specs.declared.classes.Class.{Class}
+use Rattle.interval.specs.declared.classes.Class.the-variants.{NonNegative, NonPositive, SpreadThroughZero, TrimThroughZero}
+
+-- both ends at least 0, both at most 0, first < 0 < second, first > 0 > second
+abbrev pub classOf : Interval → Class
+classOf x =
+    cond (leZ (pos 0) (x .first) && leZ (pos 0) (x .second)) NonNegative
+    (cond (leZ (x .first) (pos 0) && leZ (x .second) (pos 0)) NonPositive
+    (cond (ltZ (x .first) (pos 0)) SpreadThroughZero TrimThroughZero))

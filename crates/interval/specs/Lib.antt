@@ -1,0 +1,4 @@
+pub mod Refusals
+pub mod Directed
+pub mod Classes
+pub mod Arithmetic

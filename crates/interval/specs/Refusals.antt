@@ -1,0 +1,19 @@
+-- Each refusal's number, and what a call answers by it.
+use Prim.Native.Nat.{ℕ}
+use mathlib.Core.Bool.{Bool, cond}
+use Rattle.std.specs.declared.result.Result.{Result}
+use Rattle.std.specs.declared.result.Result.the-variants.{Ok, Err}
+use Rattle.interval.specs.declared.refusals.Refusal.{Refusal}
+use Rattle.interval.specs.declared.refusals.Refusal.the-variants.{OutsideLimit}
+
+abbrev pub numberOf : Refusal → ℕ
+numberOf OutsideLimit = 3
+
+-- an answer, with a refusal by its number
+abbrev pub numbered : {V : Type 0} → Result V Refusal → Result V ℕ
+numbered (Ok v) = Ok v
+numbered (Err e) = Err (numberOf e)
+
+-- the answer, provided that a test is met, and else the refusal n
+abbrev pub provided : {V : Type 0} → Bool → ℕ → Result V ℕ → Result V ℕ
+provided met n answer = cond met answer (Err n)

@@ -1,0 +1,109 @@
+// Kaucher's arithmetic.
+ghost use mathlib.Core.Path.{_≡_};
+ghost use Prim.Native.Nat.{_≤_};
+ghost use lib.IntN.{natAbs, _*ℤ_};
+ghost use mathlib.Core.Bool.{true, _&&_};
+ghost use Rattle.std.specs.Numbers.{minZ, maxZ};
+ghost use Rattle.std.specs.declared.result.Result.the-variants.{Ok};
+ghost use Rattle.interval.specs.Refusals.{numbered, provided};
+ghost use Rattle.interval.specs.Arithmetic.{inLimit, endsInLimit, Limited, ends, opposite as oppositeOf, sum as sumOf, multiple as multipleOf, product as productOf};
+use crate::classes::Class;
+use crate::directed::Interval;
+use crate::refusals::Refusal;
+
+// Every number that the arithmetic takes lies within ±LIMIT, so that no result overflows.
+const LIMIT: u64 = 1_000_000_000;
+
+fn in_limit(n: i64) -> bool
+    ensures { λ r. ⌜ r ≡ inLimit n ⌝ }
+{
+    n.unsigned_abs() <= LIMIT
+}
+
+fn times(a: i64, b: i64) -> i64
+    requires { ⌜ natAbs a ≤ 1000000000 ⌝ ∗ ⌜ natAbs b ≤ 1000000000 ⌝ }
+    ensures { λ r. ⌜ r ≡ a *ℤ b ⌝ }
+{
+    a * b
+}
+
+impl Interval {
+    fn in_limit(self) -> bool
+        ensures value { λ r. ⌜ r ≡ endsInLimit self ⌝ }
+        ensures tells { λ r. ⌜ (r ≡ true → Limited self) ⌝ }
+    {
+        in_limit(self.first) && in_limit(self.second)
+    }
+
+    pub fn opposite(self) -> Result<(i64, i64), Refusal>
+        ensures { λ r. ⌜ numbered r ≡ provided (endsInLimit self) 3 (Ok (ends (oppositeOf self))) ⌝ }
+    {
+        if !self.in_limit() {
+            return Err(Refusal::OutsideLimit);
+        }
+        Ok((-self.second, -self.first))
+    }
+
+    pub fn sum(self, other: Interval) -> Result<(i64, i64), Refusal>
+        ensures { λ r. ⌜ numbered r ≡ provided (endsInLimit self && endsInLimit other) 3 (Ok (ends (sumOf self other))) ⌝ }
+    {
+        if !self.in_limit() || !other.in_limit() {
+            return Err(Refusal::OutsideLimit);
+        }
+        Ok((self.first + other.first, self.second + other.second))
+    }
+}
+
+impl Interval {
+    // Whole number `t` times the interval; a negative one makes the ends change places.
+    pub fn multiple(self, t: i64) -> Result<(i64, i64), Refusal>
+        ensures { λ r. ⌜ numbered r ≡ provided (inLimit t && endsInLimit self) 3 (Ok (ends (multipleOf t self))) ⌝ }
+    {
+        if !in_limit(t) || !self.in_limit() {
+            return Err(Refusal::OutsideLimit);
+        }
+        let first = times(self.first, t);
+        let second = times(self.second, t);
+        Ok(if t < 0 { (second, first) } else { (first, second) })
+    }
+
+    pub fn product(self, other: Interval) -> Result<(i64, i64), Refusal>
+        ensures { λ r. ⌜ numbered r ≡ provided (endsInLimit self && endsInLimit other) 3 (Ok (ends (productOf self other))) ⌝ }
+    {
+        if !self.in_limit() || !other.in_limit() {
+            return Err(Refusal::OutsideLimit);
+        }
+        Ok(by_class(self, other))
+    }
+}
+
+// The product, by the sixteen cases of the two classes.
+fn by_class(x: Interval, y: Interval) -> (i64, i64)
+    requires { ⌜ Limited x ⌝ ∗ ⌜ Limited y ⌝ }
+    ensures { λ r. ⌜ r ≡ ends (productOf x y) ⌝ }
+{
+    use Class::NonNegative as P;
+    use Class::NonPositive as N;
+    use Class::SpreadThroughZero as Z;
+    use Class::TrimThroughZero as D;
+    let (a, b) = (x.first, x.second);
+    let (c, d) = (y.first, y.second);
+    match (x.class(), y.class()) {
+        (P, P) => (times(a, c), times(b, d)),
+        (P, Z) => (times(b, c), times(b, d)),
+        (P, N) => (times(b, c), times(a, d)),
+        (P, D) => (times(a, c), times(a, d)),
+        (Z, P) => (times(a, d), times(b, d)),
+        (Z, Z) => (times(a, d).min(times(b, c)), times(a, c).max(times(b, d))),
+        (Z, N) => (times(b, c), times(a, c)),
+        (Z, D) => (0, 0),
+        (N, P) => (times(a, d), times(b, c)),
+        (N, Z) => (times(a, d), times(a, c)),
+        (N, N) => (times(b, d), times(a, c)),
+        (N, D) => (times(b, d), times(b, c)),
+        (D, P) => (times(a, c), times(b, c)),
+        (D, Z) => (0, 0),
+        (D, N) => (times(b, d), times(a, d)),
+        (D, D) => (times(a, c).max(times(b, d)), times(a, d).min(times(b, c))),
+    }
+}
