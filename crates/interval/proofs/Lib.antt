@@ -1,1 +1,4 @@
 pub mod Whole
+pub mod Signs
+pub mod Parts
+pub mod Laws

@@ -1,40 +1,22 @@
-// Kaucher's arithmetic.
+// Kaucher's arithmetic. Each call takes numbers within ±1,000,000,000, refuses others, and answers both ends together.
 ghost use mathlib.Core.Path.{_≡_};
-ghost use Prim.Native.Nat.{_≤_};
-ghost use lib.IntN.{natAbs, _*ℤ_};
 ghost use mathlib.Core.Bool.{true, _&&_};
-ghost use Rattle.std.specs.Numbers.{minZ, maxZ};
+ghost use Prim.Native.Nat.{_≤_};
+ghost use lib.IntN.{natAbs, _+ℤ_, _*ℤ_};
 ghost use Rattle.std.specs.declared.result.Result.the-variants.{Ok};
 ghost use Rattle.interval.specs.Refusals.{numbered, provided};
 ghost use Rattle.interval.specs.Arithmetic.{inLimit, endsInLimit, Limited, ends, opposite as oppositeOf, sum as sumOf, multiple as multipleOf, product as productOf};
+ghost use Rattle.interval.specs.Laws.{SumLaws, MultipleLaws, ProductLaws};
+ghost use Rattle.interval.specs.Examples.{Examples};
 use crate::classes::Class;
 use crate::directed::Interval;
 use crate::refusals::Refusal;
 
-// Every number that the arithmetic takes lies within ±LIMIT, so that no result overflows.
+// No result of numbers within this limit overflows.
 const LIMIT: u64 = 1_000_000_000;
 
-fn in_limit(n: i64) -> bool
-    ensures { λ r. ⌜ r ≡ inLimit n ⌝ }
-{
-    n.unsigned_abs() <= LIMIT
-}
-
-fn times(a: i64, b: i64) -> i64
-    requires { ⌜ natAbs a ≤ 1000000000 ⌝ ∗ ⌜ natAbs b ≤ 1000000000 ⌝ }
-    ensures { λ r. ⌜ r ≡ a *ℤ b ⌝ }
-{
-    a * b
-}
-
 impl Interval {
-    fn in_limit(self) -> bool
-        ensures value { λ r. ⌜ r ≡ endsInLimit self ⌝ }
-        ensures tells { λ r. ⌜ (r ≡ true → Limited self) ⌝ }
-    {
-        in_limit(self.first) && in_limit(self.second)
-    }
-
+    // The opposite: the negative of each number of the interval.
     pub fn opposite(self) -> Result<(i64, i64), Refusal>
         ensures { λ r. ⌜ numbered r ≡ provided (endsInLimit self) 3 (Ok (ends (oppositeOf self))) ⌝ }
     {
@@ -45,40 +27,72 @@ impl Interval {
     }
 
     pub fn sum(self, other: Interval) -> Result<(i64, i64), Refusal>
-        ensures { λ r. ⌜ numbered r ≡ provided (endsInLimit self && endsInLimit other) 3 (Ok (ends (sumOf self other))) ⌝ }
+        ensures value { λ r. ⌜ numbered r ≡ provided (endsInLimit self && endsInLimit other) 3 (Ok (ends (sumOf self other))) ⌝ }
+        ensures laws { λ _. ⌜ SumLaws ⌝ }
     {
         if !self.in_limit() || !other.in_limit() {
             return Err(Refusal::OutsideLimit);
         }
-        Ok((self.first + other.first, self.second + other.second))
+        Ok(sum_ends(self, other))
     }
-}
 
-impl Interval {
-    // Whole number `t` times the interval; a negative one makes the ends change places.
+    // The whole number `t` times the interval.
     pub fn multiple(self, t: i64) -> Result<(i64, i64), Refusal>
-        ensures { λ r. ⌜ numbered r ≡ provided (inLimit t && endsInLimit self) 3 (Ok (ends (multipleOf t self))) ⌝ }
+        ensures value { λ r. ⌜ numbered r ≡ provided (inLimit t && endsInLimit self) 3 (Ok (ends (multipleOf t self))) ⌝ }
+        ensures laws { λ _. ⌜ MultipleLaws ⌝ }
     {
         if !in_limit(t) || !self.in_limit() {
             return Err(Refusal::OutsideLimit);
         }
-        let first = times(self.first, t);
-        let second = times(self.second, t);
-        Ok(if t < 0 { (second, first) } else { (first, second) })
+        Ok(multiple_ends(self, t))
     }
 
     pub fn product(self, other: Interval) -> Result<(i64, i64), Refusal>
-        ensures { λ r. ⌜ numbered r ≡ provided (endsInLimit self && endsInLimit other) 3 (Ok (ends (productOf self other))) ⌝ }
+        ensures value { λ r. ⌜ numbered r ≡ provided (endsInLimit self && endsInLimit other) 3 (Ok (ends (productOf self other))) ⌝ }
+        ensures laws { λ _. ⌜ ProductLaws ⌝ }
+        ensures examples { λ _. ⌜ Examples ⌝ }
     {
         if !self.in_limit() || !other.in_limit() {
             return Err(Refusal::OutsideLimit);
         }
-        Ok(by_class(self, other))
+        Ok(product_ends(self, other))
+    }
+
+    fn in_limit(self) -> bool
+        ensures value { λ r. ⌜ r ≡ endsInLimit self ⌝ }
+        ensures tells { λ r. ⌜ (r ≡ true → Limited self) ⌝ }
+    {
+        in_limit(self.first) && in_limit(self.second)
     }
 }
 
-// The product, by the sixteen cases of the two classes.
-fn by_class(x: Interval, y: Interval) -> (i64, i64)
+fn in_limit(n: i64) -> bool
+    ensures { λ r. ⌜ r ≡ inLimit n ⌝ }
+{
+    n.unsigned_abs() <= LIMIT
+}
+
+fn sum_ends(x: Interval, y: Interval) -> (i64, i64)
+    requires { ⌜ Limited x ⌝ ∗ ⌜ Limited y ⌝ }
+    ensures { λ r. ⌜ r ≡ ends (sumOf x y) ⌝ }
+{
+    (plus(x.first, y.first), plus(x.second, y.second))
+}
+
+// A negative multiple makes the ends change places.
+fn multiple_ends(x: Interval, t: i64) -> (i64, i64)
+    requires { ⌜ Limited x ⌝ ∗ ⌜ natAbs t ≤ 1000000000 ⌝ }
+    ensures { λ r. ⌜ r ≡ ends (multipleOf t x) ⌝ }
+{
+    if t < 0 {
+        (times(x.second, t), times(x.first, t))
+    } else {
+        (times(x.first, t), times(x.second, t))
+    }
+}
+
+// The sixteen cases of the two classes.
+fn product_ends(x: Interval, y: Interval) -> (i64, i64)
     requires { ⌜ Limited x ⌝ ∗ ⌜ Limited y ⌝ }
     ensures { λ r. ⌜ r ≡ ends (productOf x y) ⌝ }
 {
@@ -106,4 +120,18 @@ fn by_class(x: Interval, y: Interval) -> (i64, i64)
         (D, N) => (times(b, d), times(a, d)),
         (D, D) => (times(a, c).max(times(b, d)), times(a, d).min(times(b, c))),
     }
+}
+
+fn plus(a: i64, b: i64) -> i64
+    requires { ⌜ natAbs a ≤ 1000000000 ⌝ ∗ ⌜ natAbs b ≤ 1000000000 ⌝ }
+    ensures { λ r. ⌜ r ≡ a +ℤ b ⌝ }
+{
+    a + b
+}
+
+fn times(a: i64, b: i64) -> i64
+    requires { ⌜ natAbs a ≤ 1000000000 ⌝ ∗ ⌜ natAbs b ≤ 1000000000 ⌝ }
+    ensures { λ r. ⌜ r ≡ a *ℤ b ⌝ }
+{
+    a * b
 }

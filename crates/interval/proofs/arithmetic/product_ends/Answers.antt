@@ -8,7 +8,7 @@ use Rattle.std.proofs.shelf.Signed.{toZ-ofZ}
 use Rattle.std.specs.Numbers.{minZ, maxZ}
 use Rattle.interval.specs.declared.directed.Interval.{Interval}
 use Rattle.interval.specs.Arithmetic.{byClass, ends}
-use Rattle.interval.proofs.arithmetic.by_class.Needs as need
+use Rattle.interval.proofs.arithmetic.product_ends.Needs as need
 
 -- a number as it is read back from its bits
 abbrev back : ℤ → ℤ

@@ -1,0 +1,9 @@
+use borrow.Author.Needs.{needs}
+use Rattle.interval.proofs.Laws.{multiple-laws}
+use Rattle.interval.proofs.directed.Interval.multiple.Needs as need
+
+pub returns-then-not-in-limit : need.returns-then-not-in-limit
+returns-then-not-in-limit c = record { value = search needs; laws = multiple-laws }
+
+pub returns : need.returns
+returns c = record { value = search needs; laws = multiple-laws }
