@@ -1,7 +1,12 @@
 -- Directed intervals: their kinds, the dual, and when one lies in another.
+use Prim.Native.Nat.{ℕ}
+use mathlib.Core.Path.{_≡_}
 use mathlib.Core.Bool.{cond}
+use mathlib.Core.List.{List, _++_}
+use lib.Chars.{codes}
 use lib.IntN.{ℤ}
-use lib.Signed.{ltZ, _≤ℤ_}
+use lib.Signed.{ltZ, _≤ℤ_, _<ℤ_}
+use Rattle.std.specs.Written.{signed}
 use Rattle.interval.specs.declared.directed.Interval.{Interval}
 use Rattle.interval.specs.declared.directed.Kind.{Kind}
 use Rattle.interval.specs.declared.directed.Kind.the-variants.{Spread, Trim, Fixed}
@@ -13,6 +18,21 @@ a to b = record { first = a; second = b }
 
 abbrev pub kindOf : Interval → Kind
 kindOf x = cond (ltZ (x .first) (x .second)) Spread (cond (ltZ (x .second) (x .first)) Trim Fixed)
+
+-- what each kind says of the ends
+abbrev pub Says : Kind → Interval → Type 0
+Says Spread x = x .first <ℤ x .second
+Says Trim x = x .second <ℤ x .first
+Says Fixed x = x .first ≡ x .second
+
+-- what is printed of each kind and of an interval
+abbrev pub kindText : Kind → List ℕ
+kindText Spread = codes "spread"
+kindText Trim = codes "trim"
+kindText Fixed = codes "fixed"
+
+abbrev pub endsText : Interval → List ℕ
+endsText x = codes "(" ++ (signed (x .first) ++ (codes ", " ++ (signed (x .second) ++ codes ")")))
 
 abbrev pub dual : Interval → Interval
 dual x = x .second to x .first

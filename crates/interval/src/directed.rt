@@ -1,7 +1,8 @@
 // A directed interval: two whole numbers, of which the first need not be the lesser.
 ghost use mathlib.Core.Path.{_≡_};
 ghost use Rattle.std.specs.Orderings.{Decides};
-ghost use Rattle.interval.specs.Directed.{dual as dualOf, kindOf, LiesIn};
+ghost use Rattle.std.specs.declared.option.Option.the-variants.{Some};
+ghost use Rattle.interval.specs.Directed.{dual as dualOf, kindOf, kindText, endsText, Says, LiesIn};
 use std::fmt;
 
 #[derive(Clone, Copy, PartialEq, Eq, Debug)]
@@ -21,7 +22,8 @@ pub enum Kind {
 
 impl Interval {
     pub fn kind(self) -> Kind
-        ensures { λ r. ⌜ r ≡ kindOf self ⌝ }
+        ensures value { λ r. ⌜ r ≡ kindOf self ⌝ }
+        ensures says { λ r. ⌜ Says r self ⌝ }
     {
         match self.first {
             a if a < self.second => Kind::Spread,
@@ -54,6 +56,8 @@ pub impl From<(i64, i64)> for Interval as IntervalFromEnds {
 }
 
 pub impl fmt::Display for Interval as IntervalDisplay {
+    ghost shown = { λ x. Some (endsText x) };
+
     fn fmt<W: fmt::Write>(&self, f: &mut fmt::Formatter<W>) -> fmt::Result {
         let first = self.first;
         let second = self.second;
@@ -62,6 +66,8 @@ pub impl fmt::Display for Interval as IntervalDisplay {
 }
 
 pub impl fmt::Display for Kind as KindDisplay {
+    ghost shown = { λ k. Some (kindText k) };
+
     fn fmt<W: fmt::Write>(&self, f: &mut fmt::Formatter<W>) -> fmt::Result {
         match self {
             Kind::Spread => write!(f, "spread"),

@@ -1,6 +1,7 @@
 // Why a call is refused. Each refusal has a number, and a refused call changes nothing.
 ghost use mathlib.Core.Path.{_≡_};
-ghost use Rattle.interval.specs.Refusals.{numberOf};
+ghost use Rattle.interval.specs.Refusals.{numberOf, textOf};
+ghost use Rattle.std.specs.declared.option.Option.the-variants.{Some};
 use std::fmt;
 
 #[derive(Clone, Copy, PartialEq, Eq, Debug)]
@@ -18,6 +19,8 @@ impl Refusal {
 }
 
 pub impl fmt::Display for Refusal as RefusalDisplay {
+    ghost shown = { λ e. Some (textOf e) };
+
     fn fmt<W: fmt::Write>(&self, f: &mut fmt::Formatter<W>) -> fmt::Result {
         match self {
             Refusal::OutsideLimit => write!(f, "a number is outside its limit"),

@@ -41,7 +41,7 @@ returns-in-SpreadThroughZero-SpreadThroughZero c =
     let bd = c .times-in-SpreadThroughZero-SpreadThroughZero-4 in
     let least = picked minZ (x .first) (y .second) (x .second) (y .first) _ _ _ fa fd fb fc (search needs) (search needs) (search needs) (ad .ensures) (bc .ensures) (c .min .ensures .value) in
     let greatest = picked maxZ (x .first) (y .first) (x .second) (y .second) _ _ _ fa fc fb fd (search needs) (search needs) (search needs) (ac .ensures) (bd .ensures) (c .max .ensures .value) in
-    ap₂ pair least greatest ∙ ap₂ (λ k l. ends (byClass k l (x .first) (x .second) (y .first) (y .second))) (arm .ensures tt) (arm .ensures′ tt)
+    ap₂ pair least greatest ∙ ap₂ (λ k l. ends (byClass k l (x .first) (x .second) (y .first) (y .second))) (arm .ensures tt .value) (arm .ensures′ tt .value)
 
 pub returns-in-TrimThroughZero-TrimThroughZero : need.returns-in-TrimThroughZero-TrimThroughZero
 returns-in-TrimThroughZero-TrimThroughZero c =
@@ -58,4 +58,4 @@ returns-in-TrimThroughZero-TrimThroughZero c =
     let bc = c .times-in-TrimThroughZero-TrimThroughZero-4 in
     let least = picked minZ (x .first) (y .second) (x .second) (y .first) _ _ _ fa fd fb fc (search needs) (search needs) (search needs) (ad .ensures) (bc .ensures) (c .min-in-TrimThroughZero-TrimThroughZero .ensures .value) in
     let greatest = picked maxZ (x .first) (y .first) (x .second) (y .second) _ _ _ fa fc fb fd (search needs) (search needs) (search needs) (ac .ensures) (bd .ensures) (c .max-in-TrimThroughZero-TrimThroughZero .ensures .value) in
-    ap₂ pair greatest least ∙ ap₂ (λ k l. ends (byClass k l (x .first) (x .second) (y .first) (y .second))) (arm .ensures tt) (arm .ensures′ tt)
+    ap₂ pair greatest least ∙ ap₂ (λ k l. ends (byClass k l (x .first) (x .second) (y .first) (y .second))) (arm .ensures tt .value) (arm .ensures′ tt .value)
