@@ -3,17 +3,17 @@ use Prim.Native.Nat.{ℕ}
 use native.Mathlib.Omega.{arith}
 use mathlib.Core.Path.{_≡_, refl, sym, ap, ap₂, subst, _∙_}
 use mathlib.Core.Bool.{Bool, true, false, cond}
-use mathlib.Core.Logic.{_⊎_, inl, inr}
-use lib.IntN.{ℤ, pos, negsuc, negℤ, _*ℤ_, *ℤ-zero, *ℤ-comm, +ℤ-comm}
+use mathlib.Core.Logic.{inl, inr}
+use lib.IntN.{ℤ, pos, negℤ, _*ℤ_, *ℤ-zero, zero-*ℤ, *ℤ-comm, +ℤ-comm}
 use lib.Signed.{ltZ, _≤ℤ_, _<ℤ_, ≤ℤ-refl}
-use Rattle.std.specs.Numbers.{minZ, maxZ}
+use Rattle.std.specs.Numbers.{minZ}
 use Rattle.std.proofs.shelf.Signed.{by-ltZ, ints}
 use Rattle.interval.specs.declared.directed.Interval.{Interval}
 use Rattle.interval.specs.declared.classes.Class.{Class}
 use Rattle.interval.specs.declared.classes.Class.the-variants.{NonNegative as P, NonPositive as N, SpreadThroughZero as Z, TrimThroughZero as D}
 use Rattle.interval.specs.Directed.{_to_, dual, LiesIn}
 use Rattle.interval.specs.Classes.{classOf}
-use Rattle.interval.specs.Arithmetic.{byClass, opposite, sum, multiple, product}
+use Rattle.interval.specs.Arithmetic.{byClass, opposite, multiple, product}
 use Rattle.interval.specs.Laws.{Proper, fourProducts, firstByParts, SumLaws, ProductLaws, Corner, MultipleLaws}
 use Rattle.interval.specs.Examples.{Examples}
 use Rattle.interval.proofs.Whole.{lin, mono-r, anti-r, neg-times, neg-pos, pos-neg}
@@ -69,13 +69,16 @@ is-product t c =
   where
     by : Class → Interval
     by k = byClass k (classOf c) t t (c .first) (c .second)
+
     flip : (u v : ℤ) → (u *ℤ t to v *ℤ t) ≡ (t *ℤ u to t *ℤ v)
     flip u v = ap₂ _to_ (*ℤ-comm u t) (*ℤ-comm v t)
+
     up : (k : Class) → (c .first *ℤ t to c .second *ℤ t) ≡ byClass P k t t (c .first) (c .second)
     up P = flip _ _
     up N = flip _ _
     up Z = flip _ _
     up D = flip _ _
+
     down : (k : Class) → (c .second *ℤ t to c .first *ℤ t) ≡ byClass N k t t (c .first) (c .second)
     down P = flip _ _
     down N = flip _ _
@@ -169,12 +172,12 @@ second-reached c lo hi o =
 
 pub multiple-laws : MultipleLaws
 multiple-laws =
-    record
-    { is-product = is-product
-    ; bounded = bounded
-    ; bounded-over = bounded-over
-    ; first-reached = first-reached
-    ; second-reached = second-reached
+    record {
+      is-product = is-product;
+      bounded = bounded;
+      bounded-over = bounded-over;
+      first-reached = first-reached;
+      second-reached = second-reached;
     }
 
 -- ---- spread or fixed intervals
@@ -213,23 +216,42 @@ of-proper x y h k = ap₂ _to_ (first-of-proper a b c d h k) second
   where
     a : ℤ
     a = x .first
+
     b : ℤ
     b = x .second
+
     c : ℤ
     c = y .first
+
     d : ℤ
     d = y .second
+
     second : product x y .second ≡ fourProducts x y .second
     second = omega (arith, lin, first-of-proper (negℤ b) (negℤ a) c d (omega (arith, lin)) k, ap (λ z. z .first) (of-opposite x y), neg-times a c, neg-times a d, neg-times b c, neg-times b d)
 
+-- ---- (0, 0)
+
+left-zero : (a b : ℤ) → (pos 0 *ℤ a to pos 0 *ℤ b) ≡ (pos 0 *ℤ b to pos 0 *ℤ a)
+left-zero a b = ap₂ _to_ (zero-*ℤ a ∙ sym (zero-*ℤ b)) (zero-*ℤ b ∙ sym (zero-*ℤ a))
+
+right-zero : (a b : ℤ) → (a *ℤ pos 0 to b *ℤ pos 0) ≡ (b *ℤ pos 0 to a *ℤ pos 0)
+right-zero a b = ap₂ _to_ (*ℤ-zero a ∙ sym (*ℤ-zero b)) (*ℤ-zero b ∙ sym (*ℤ-zero a))
+
+zero-by-either : (k : Class) (a b : ℤ) → (byClass P k (pos 0) (pos 0) a b ≡ byClass N k (pos 0) (pos 0) a b) × (byClass k P a b (pos 0) (pos 0) ≡ byClass k N a b (pos 0) (pos 0))
+zero-by-either P a b = (left-zero a b, right-zero a b)
+zero-by-either N a b = (left-zero a b, right-zero a b)
+zero-by-either Z a b = (left-zero a b, right-zero a b)
+zero-by-either D a b = (left-zero a b, right-zero a b)
+
 pub product-laws : ProductLaws
 product-laws =
-    record
-    { commutes = commutes
-    ; of-duals = of-duals
-    ; of-opposite = of-opposite
-    ; left-order = left-order
-    ; right-order = right-order
-    ; of-proper = of-proper
-    ; by-parts = by-parts
+    record {
+      commutes = commutes;
+      of-duals = of-duals;
+      of-opposite = of-opposite;
+      left-order = left-order;
+      right-order = right-order;
+      of-proper = of-proper;
+      zero-by-either = zero-by-either;
+      by-parts = by-parts;
     }

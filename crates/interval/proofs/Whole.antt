@@ -1,14 +1,11 @@
 -- Products of integers: laws and orders.
-use Prim.Native.Nat.{ℕ, suc, _+_, _*_, _≤_, _<_}
+use Prim.Native.Nat.{ℕ, suc, _+_, _*_, _≤_}
 use native.Mathlib.Omega.{arith}
-use native.Mathlib.Nat.{mul-le-mul-left, mul-add, add-mul, mul-comm, mul-assoc, mul-le-mul}
-use mathlib.Core.Path.{_≡_, refl, sym, ap, _∙_}
-use lib.IntN.{ℤ, pos, negsuc, negℤ, natAbs, _+ℤ_, _-ℤ_, _*ℤ_, *ℤ-zero, zero-*ℤ, *ℤ-comm}
-use lib.Signed.{_≤ℤ_, _<ℤ_}
-use mathlib.Core.Bool.{Bool, true, false, cond, _&&_}
-use mathlib.Core.Logic.{_⊎_, inl, inr}
-use Rattle.std.specs.Numbers.{minZ, maxZ}
-use Rattle.std.proofs.shelf.Signed.{maxZ-is, minZ-is, by-ltZ}
+use native.Mathlib.Nat.{mul-le-mul-left, mul-add, add-mul, mul-assoc, mul-le-mul}
+use mathlib.Core.Path.{_≡_, ap}
+use lib.IntN.{ℤ, pos, negsuc, negℤ, natAbs, _+ℤ_, _*ℤ_, *ℤ-zero, *ℤ-comm}
+use lib.Signed.{_≤ℤ_}
+use Rattle.std.proofs.shelf.Signed.{maxZ-is, minZ-is}
 use borrow.Author.Differences.{up, down, ints, fits-out, same-out, apart-out, lt-T, le-T, lt-not, le-not, lt-true, lt-false, le-true, le-false, true-lt, false-lt, true-le, false-le, lt-out, le-out, fits-in, same-in, lt-in, le-in, below-in, at-most-in, true-is-lt, false-is-lt, true-is-le, false-is-le, sum-is, neg-is, product-is, back-is, small-is, read-fits, abs-is, mag-is}
 
 -- integers for `omega`, with a product as an unknown; least and greatest too
@@ -53,9 +50,6 @@ pos-neg a b p q = omega (arith, lin, mono a b (pos 0) p q, *ℤ-zero a)
 pub neg-pos : (a b : ℤ) → a ≤ℤ pos 0 → pos 0 ≤ℤ b → (a *ℤ b) ≤ℤ pos 0
 neg-pos a b p q = omega (arith, lin, anti a (pos 0) b p q, *ℤ-zero a)
 
-pub neg-neg : (a b : ℤ) → a ≤ℤ pos 0 → b ≤ℤ pos 0 → pos 0 ≤ℤ (a *ℤ b)
-neg-neg a b p q = omega (arith, lin, anti a b (pos 0) p q, *ℤ-zero a)
-
 -- the size of a product
 pub product-size : (a b : ℤ) (m n : ℕ) → natAbs a ≤ m → natAbs b ≤ n → natAbs (a *ℤ b) ≤ m * n
 product-size (pos a) (pos b) m n p q = mul-le-mul p q
@@ -81,27 +75,5 @@ times-neg c s = same-in _ _ (simp (product-fst, product-snd, neg-up, neg-down) (
 pub neg-times : (c s : ℤ) → negℤ c *ℤ s ≡ negℤ (c *ℤ s)
 neg-times c s = same-in _ _ (simp (product-fst, product-snd, neg-up, neg-down) (omega arith))
 
-pub times-sub : (c s t : ℤ) → c *ℤ (s -ℤ t) ≡ c *ℤ s -ℤ c *ℤ t
-times-sub c s t = times-add c s (negℤ t) ∙ ap (λ x. c *ℤ s +ℤ x) (times-neg c t)
-
 pub add-times : (s t c : ℤ) → (s +ℤ t) *ℤ c ≡ s *ℤ c +ℤ t *ℤ c
 add-times s t c = omega (arith, lin, times-add c s t, *ℤ-comm (s +ℤ t) c, *ℤ-comm s c, *ℤ-comm t c)
-
-pub one-times : (c : ℤ) → pos 1 *ℤ c ≡ c
-one-times c = same-in _ _ (simp (product-fst, product-snd) (omega arith))
-
-pub times-one : (c : ℤ) → c *ℤ pos 1 ≡ c
-times-one c = *ℤ-comm c (pos 1) ∙ one-times c
-
--- a product with a factor of at least 1
-pub grows : (d x : ℤ) → pos 1 ≤ℤ d → pos 0 ≤ℤ x → x ≤ℤ (d *ℤ x)
-grows d x p q = omega (arith, lin, mono-r (pos 1) d x q p, one-times x)
-
-pub cancel : (f x y : ℤ) → pos 1 ≤ℤ f → (f *ℤ x) ≤ℤ (f *ℤ y) → x ≤ℤ y
-cancel f x y p h = by-ltZ y x (λ l. absurd (omega (arith, lin, mono f (y +ℤ pos 1) x (omega (arith, lin)) (omega (arith, lin)), times-add f y (pos 1), times-one f))) (λ l. l)
-
-pub same₃ : {X : Type 0} (f : ℤ → ℤ → ℤ → X) {a a′ b b′ c c′ : ℤ} → a ≡ a′ → b ≡ b′ → c ≡ c′ → f a b c ≡ f a′ b′ c′
-same₃ f p q r = λ i. f (p i) (q i) (r i)
-
-pub same₄ : {X : Type 0} (f : ℤ → ℤ → ℤ → ℤ → X) {a a′ b b′ c c′ d d′ : ℤ} → a ≡ a′ → b ≡ b′ → c ≡ c′ → d ≡ d′ → f a b c d ≡ f a′ b′ c′ d′
-same₄ f p q r s = λ i. f (p i) (q i) (r i) (s i)

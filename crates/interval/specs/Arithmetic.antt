@@ -11,15 +11,19 @@ use Rattle.interval.specs.declared.classes.Class.the-variants.{NonNegative as 
 use Rattle.interval.specs.Directed.{_to_}
 use Rattle.interval.specs.Classes.{classOf}
 
+-- the numbers that the calls take are at most this in size
+abbrev pub limit : ℕ
+limit = 1000000000
+
 abbrev pub inLimit : ℤ → Bool
-inLimit n = leb (natAbs n) 1000000000
+inLimit n = leb (natAbs n) limit
 
 abbrev pub endsInLimit : Interval → Bool
 endsInLimit x = inLimit (x .first) && inLimit (x .second)
 
 -- the same, as a fact
 abbrev pub Limited : Interval → Type 0
-Limited x = (natAbs (x .first) ≤ 1000000000) × (natAbs (x .second) ≤ 1000000000)
+Limited x = (natAbs (x .first) ≤ limit) × (natAbs (x .second) ≤ limit)
 
 abbrev pub ends : Interval → ℤ × ℤ
 ends x = (x .first, x .second)

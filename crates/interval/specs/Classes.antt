@@ -1,6 +1,6 @@
 -- The four sign classes.
 use mathlib.Core.Bool.{cond, _&&_}
-use lib.IntN.{ℤ, pos}
+use lib.IntN.{pos}
 use lib.Signed.{leZ, ltZ, _≤ℤ_, _<ℤ_}
 use Rattle.interval.specs.declared.directed.Interval.{Interval}
 use Rattle.interval.specs.declared.classes.Class.{Class}

@@ -6,8 +6,10 @@ use lib.IntN.{ℤ, pos, negℤ, _-ℤ_, _*ℤ_}
 use lib.Signed.{_≤ℤ_}
 use Rattle.std.specs.Numbers.{minZ, maxZ}
 use Rattle.interval.specs.declared.directed.Interval.{Interval}
+use Rattle.interval.specs.declared.classes.Class.{Class}
+use Rattle.interval.specs.declared.classes.Class.the-variants.{NonNegative as P, NonPositive as N}
 use Rattle.interval.specs.Directed.{_to_, dual, LiesIn}
-use Rattle.interval.specs.Arithmetic.{opposite, sum, multiple, product}
+use Rattle.interval.specs.Arithmetic.{byClass, opposite, sum, multiple, product}
 
 -- a spread or fixed interval
 abbrev pub Proper : Interval → Type 0
@@ -43,6 +45,8 @@ pub record ProductLaws : Type 0 where
   pub left-order : (x y z : Interval) → LiesIn x y → LiesIn (product x z) (product y z)
   pub right-order : (x y z : Interval) → LiesIn y z → LiesIn (product x y) (product x z)
   pub of-proper : (x y : Interval) → Proper x → Proper y → product x y ≡ fourProducts x y
+  -- (0, 0) is of two classes, and the table gives the same by either
+  pub zero-by-either : (k : Class) (a b : ℤ) → (byClass P k (pos 0) (pos 0) a b ≡ byClass N k (pos 0) (pos 0) a b) × (byClass k P a b (pos 0) (pos 0) ≡ byClass k N a b (pos 0) (pos 0))
   pub by-parts : (x y : Interval) → product x y ≡ (firstByParts x y to firstByParts (dual x) (dual y))
 
 -- n is lo, hi, or 0 between them

@@ -1,8 +1,11 @@
 -- Each refusal's number, and what a call answers by it.
 use Prim.Native.Nat.{ℕ}
+use mathlib.Core.Path.{_≡_}
 use mathlib.Core.Bool.{Bool, cond}
 use mathlib.Core.List.{List}
 use lib.Chars.{codes}
+use Rattle.std.specs.declared.option.Option.{Option}
+use Rattle.std.specs.declared.option.Option.the-variants.{Some, None}
 use Rattle.std.specs.declared.result.Result.{Result}
 use Rattle.std.specs.declared.result.Result.the-variants.{Ok, Err}
 use Rattle.interval.specs.declared.refusals.Refusal.{Refusal}
@@ -15,11 +18,16 @@ numberOf OutsideLimit = 3
 abbrev pub textOf : Refusal → List ℕ
 textOf OutsideLimit = codes "a number is outside its limit"
 
--- an answer, with a refusal by its number
-abbrev pub numbered : {V : Type 0} → Result V Refusal → Result V ℕ
-numbered (Ok v) = Ok v
-numbered (Err e) = Err (numberOf e)
+-- the refusal n, unless a test is met
+abbrev pub unless : Bool → ℕ → Option ℕ
+unless met n = cond met None (Some n)
 
--- the answer, provided that a test is met, and else the refusal n
-abbrev pub provided : {V : Type 0} → Bool → ℕ → Result V ℕ → Result V ℕ
-provided met n answer = cond met answer (Err n)
+-- the first refusal, or else the second
+abbrev pub orElse : Option ℕ → Option ℕ → Option ℕ
+orElse None next = next
+orElse (Some n) next = Some n
+
+-- what a call answers: its refusal, if there is one, and otherwise the value
+abbrev pub Answers : {V : Type 0} → Option ℕ → V → Result V Refusal → Type 0
+Answers refusal v (Ok w) = (refusal ≡ None) × (w ≡ v)
+Answers refusal v (Err e) = refusal ≡ Some (numberOf e)

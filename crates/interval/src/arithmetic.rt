@@ -3,9 +3,9 @@ ghost use mathlib.Core.Path.{_≡_};
 ghost use mathlib.Core.Bool.{true, _&&_};
 ghost use Prim.Native.Nat.{_≤_};
 ghost use lib.IntN.{natAbs, _+ℤ_, _*ℤ_};
-ghost use Rattle.std.specs.declared.result.Result.the-variants.{Ok};
-ghost use Rattle.interval.specs.Refusals.{numbered, provided};
-ghost use Rattle.interval.specs.Arithmetic.{inLimit, endsInLimit, Limited, ends, opposite as oppositeOf, sum as sumOf, multiple as multipleOf, product as productOf};
+ghost use Rattle.std.specs.Numbers.{minZ, maxZ};
+ghost use Rattle.interval.specs.Refusals.{unless, Answers};
+ghost use Rattle.interval.specs.Arithmetic.{limit, inLimit, endsInLimit, Limited, ends, opposite as oppositeOf, sum as sumOf, multiple as multipleOf, product as productOf};
 ghost use Rattle.interval.specs.Laws.{SumLaws, MultipleLaws, ProductLaws};
 ghost use Rattle.interval.specs.Examples.{Examples};
 use crate::classes::Class;
@@ -16,21 +16,21 @@ use crate::refusals::Refusal;
 const LIMIT: u64 = 1_000_000_000;
 
 impl Interval {
-    // The opposite: the negative of each number of the interval.
+    // The interval of the negatives.
     pub fn opposite(self) -> Result<(i64, i64), Refusal>
-        ensures { λ r. ⌜ numbered r ≡ provided (endsInLimit self) 3 (Ok (ends (oppositeOf self))) ⌝ }
+        ensures { λ r. ⌜ Answers (unless (endsInLimit self) 3) (ends (oppositeOf self)) r ⌝ }
     {
-        if !self.in_limit() {
+        if !self.ends_in_limit() {
             return Err(Refusal::OutsideLimit);
         }
         Ok((-self.second, -self.first))
     }
 
     pub fn sum(self, other: Interval) -> Result<(i64, i64), Refusal>
-        ensures value { λ r. ⌜ numbered r ≡ provided (endsInLimit self && endsInLimit other) 3 (Ok (ends (sumOf self other))) ⌝ }
+        ensures value { λ r. ⌜ Answers (unless (endsInLimit self && endsInLimit other) 3) (ends (sumOf self other)) r ⌝ }
         ensures laws { λ _. ⌜ SumLaws ⌝ }
     {
-        if !self.in_limit() || !other.in_limit() {
+        if !self.ends_in_limit() || !other.ends_in_limit() {
             return Err(Refusal::OutsideLimit);
         }
         Ok(sum_ends(self, other))
@@ -38,27 +38,27 @@ impl Interval {
 
     // The whole number `t` times the interval.
     pub fn multiple(self, t: i64) -> Result<(i64, i64), Refusal>
-        ensures value { λ r. ⌜ numbered r ≡ provided (inLimit t && endsInLimit self) 3 (Ok (ends (multipleOf t self))) ⌝ }
+        ensures value { λ r. ⌜ Answers (unless (inLimit t && endsInLimit self) 3) (ends (multipleOf t self)) r ⌝ }
         ensures laws { λ _. ⌜ MultipleLaws ⌝ }
     {
-        if !in_limit(t) || !self.in_limit() {
+        if !in_limit(t) || !self.ends_in_limit() {
             return Err(Refusal::OutsideLimit);
         }
         Ok(multiple_ends(self, t))
     }
 
     pub fn product(self, other: Interval) -> Result<(i64, i64), Refusal>
-        ensures value { λ r. ⌜ numbered r ≡ provided (endsInLimit self && endsInLimit other) 3 (Ok (ends (productOf self other))) ⌝ }
+        ensures value { λ r. ⌜ Answers (unless (endsInLimit self && endsInLimit other) 3) (ends (productOf self other)) r ⌝ }
         ensures laws { λ _. ⌜ ProductLaws ⌝ }
         ensures examples { λ _. ⌜ Examples ⌝ }
     {
-        if !self.in_limit() || !other.in_limit() {
+        if !self.ends_in_limit() || !other.ends_in_limit() {
             return Err(Refusal::OutsideLimit);
         }
         Ok(product_ends(self, other))
     }
 
-    fn in_limit(self) -> bool
+    fn ends_in_limit(self) -> bool
         ensures value { λ r. ⌜ r ≡ endsInLimit self ⌝ }
         ensures tells { λ r. ⌜ (r ≡ true → Limited self) ⌝ }
     {
@@ -81,7 +81,7 @@ fn sum_ends(x: Interval, y: Interval) -> (i64, i64)
 
 // A negative multiple makes the ends change places.
 fn multiple_ends(x: Interval, t: i64) -> (i64, i64)
-    requires { ⌜ Limited x ⌝ ∗ ⌜ natAbs t ≤ 1000000000 ⌝ }
+    requires { ⌜ Limited x ⌝ ∗ ⌜ natAbs t ≤ limit ⌝ }
     ensures { λ r. ⌜ r ≡ ends (multipleOf t x) ⌝ }
 {
     if t < 0 {
@@ -108,7 +108,7 @@ fn product_ends(x: Interval, y: Interval) -> (i64, i64)
         (P, N) => (times(b, c), times(a, d)),
         (P, D) => (times(a, c), times(a, d)),
         (Z, P) => (times(a, d), times(b, d)),
-        (Z, Z) => (times(a, d).min(times(b, c)), times(a, c).max(times(b, d))),
+        (Z, Z) => extremes(x, y),
         (Z, N) => (times(b, c), times(a, c)),
         (Z, D) => (0, 0),
         (N, P) => (times(a, d), times(b, c)),
@@ -118,19 +118,47 @@ fn product_ends(x: Interval, y: Interval) -> (i64, i64)
         (D, P) => (times(a, c), times(b, c)),
         (D, Z) => (0, 0),
         (D, N) => (times(b, d), times(a, d)),
-        (D, D) => (times(a, c).max(times(b, d)), times(a, d).min(times(b, c))),
+        (D, D) => {
+            let (least, greatest) = extremes(x, y);
+            (greatest, least)
+        }
     }
 }
 
+// The least and the greatest product of two ends, where both intervals go through zero.
+fn extremes(x: Interval, y: Interval) -> (i64, i64)
+    requires { ⌜ Limited x ⌝ ∗ ⌜ Limited y ⌝ }
+    ensures { λ r. ⌜ r ≡ (minZ (x .first *ℤ y .second) (x .second *ℤ y .first), maxZ (x .first *ℤ y .first) (x .second *ℤ y .second)) ⌝ }
+{
+    let (a, b) = (x.first, x.second);
+    let (c, d) = (y.first, y.second);
+    (
+        lesser(times(a, d), times(b, c)),
+        greater(times(a, c), times(b, d)),
+    )
+}
+
+fn lesser(m: i64, n: i64) -> i64
+    ensures { λ r. ⌜ r ≡ minZ m n ⌝ }
+{
+    m.min(n)
+}
+
+fn greater(m: i64, n: i64) -> i64
+    ensures { λ r. ⌜ r ≡ maxZ m n ⌝ }
+{
+    m.max(n)
+}
+
 fn plus(a: i64, b: i64) -> i64
-    requires { ⌜ natAbs a ≤ 1000000000 ⌝ ∗ ⌜ natAbs b ≤ 1000000000 ⌝ }
+    requires { ⌜ natAbs a ≤ limit ⌝ ∗ ⌜ natAbs b ≤ limit ⌝ }
     ensures { λ r. ⌜ r ≡ a +ℤ b ⌝ }
 {
     a + b
 }
 
 fn times(a: i64, b: i64) -> i64
-    requires { ⌜ natAbs a ≤ 1000000000 ⌝ ∗ ⌜ natAbs b ≤ 1000000000 ⌝ }
+    requires { ⌜ natAbs a ≤ limit ⌝ ∗ ⌜ natAbs b ≤ limit ⌝ }
     ensures { λ r. ⌜ r ≡ a *ℤ b ⌝ }
 {
     a * b

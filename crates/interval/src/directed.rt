@@ -36,7 +36,10 @@ impl Interval {
     pub fn dual(self) -> Interval
         ensures { λ r. ⌜ r ≡ dualOf self ⌝ }
     {
-        Interval { first: self.second, second: self.first }
+        Interval {
+            first: self.second,
+            second: self.first,
+        }
     }
 
     // Whether this interval lies in the other: it begins no lower and ends no higher.
@@ -51,7 +54,10 @@ pub impl From<(i64, i64)> for Interval as IntervalFromEnds {
     ghost converts = { λ ends r. (r .first ≡ ends .0) × (r .second ≡ ends .1) };
 
     fn from(ends: (i64, i64)) -> Interval {
-        Interval { first: ends.0, second: ends.1 }
+        Interval {
+            first: ends.0,
+            second: ends.1,
+        }
     }
 }
 

@@ -1,0 +1,5 @@
+// Tests of the crate interval.
+#[cfg(test)]
+mod limits;
+#[cfg(test)]
+mod small;
