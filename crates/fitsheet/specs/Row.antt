@@ -2,14 +2,19 @@
 use Prim.Native.Nat.{ℕ}
 use mathlib.Core.Path.{_≡_}
 use mathlib.Core.Bool.{_&&_}
+use mathlib.Core.List.{List, [], _∷_}
 use lib.IntN.{pos}
 use lib.Signed.{_≤ℤ_, _<ℤ_}
+use Rattle.std.specs.Of.Vec.{vec-items}
 use Rattle.std.specs.declared.option.Option.{Option}
+use Rattle.std.specs.declared.option.Option.the-variants.{Some, None}
 use Rattle.interval.specs.declared.directed.Interval.{Interval}
-use Rattle.interval.specs.Refusals.{unless, orElse}
+use Rattle.interval.specs.Directed.{_to_}
+use Rattle.interval.specs.Refusals.{unless, orElse, Answers}
 use Rattle.interval.specs.Arithmetic.{inLimit, endsInLimit, sum, multiple}
 use Rattle.fitsheet.specs.declared.row.Term.{Term}
 use Rattle.fitsheet.specs.declared.row.Step.{Step}
+use Rattle.fitsheet.specs.declared.row.Walk.{Walk}
 use Rattle.fitsheet.specs.declared.row.Verdict.{Verdict}
 use Rattle.fitsheet.specs.declared.row.Verdict.the-variants.{Balanced, Low, High}
 
@@ -20,6 +25,33 @@ stepOf s t = record { multiple = multiple (t .factor) (t .cell); sum = sum s (mu
 -- why a term is refused, if it is
 abbrev pub refusalOf : Interval → Term → Option ℕ
 refusalOf s t = orElse (unless (inLimit (t .factor) && endsInLimit (t .cell)) 3) (unless (endsInLimit s && endsInLimit (multiple (t .factor) (t .cell))) 3)
+
+abbrev pub nought : Interval
+nought = pos 0 to pos 0
+
+-- the sum of a row: of the multiples of its cells
+abbrev pub rowSum : List Term → Interval
+rowSum [] = nought
+rowSum (t ∷ ts) = sum (multiple (t .factor) (t .cell)) (rowSum ts)
+
+-- the first refusal among a row's terms, where the sum before them is s
+abbrev pub refusedIn : Interval → List Term → Option ℕ
+refusedIn s [] = None
+refusedIn s (t ∷ ts) = orElse (refusalOf s t) (refusedIn (stepOf s t .sum) ts)
+
+abbrev pub unlessRefused : Option ℕ → List Step → List Step
+unlessRefused None xs = xs
+unlessRefused (Some n) xs = []
+
+-- the steps before it
+abbrev pub stepsOf : Interval → List Term → List Step
+stepsOf s [] = []
+stepsOf s (t ∷ ts) = unlessRefused (refusalOf s t) (stepOf s t ∷ stepsOf (stepOf s t .sum) ts)
+
+-- what a walk along a row gives: the steps, and the row's sum unless a term is refused
+pub record Walked (ts : List Term) (w : Walk) : Type 0 where
+  pub steps : vec-items (w .steps) ≡ stepsOf nought ts
+  pub end : Answers (refusedIn nought ts) (rowSum ts) (w .end)
 
 -- what each verdict says of a row's sum, and which number it holds
 abbrev pub Judges : Verdict → Interval → Type 0

@@ -2,7 +2,6 @@
 mod reading;
 mod row;
 
-use interval::Interval;
 use interval::IntervalDisplay;
 use interval::KindDisplay;
 use interval::RefusalDisplay;
@@ -11,6 +10,7 @@ use reading::read_row;
 use row::Term;
 use row::Verdict;
 use row::VerdictDisplay;
+use row::Walk;
 use std::io;
 use std::io::ErrorKind;
 
@@ -43,29 +43,27 @@ fn answer(rt: &LibcRuntime, number: usize, line: &str) -> io::Result<()> {
     }
 }
 
-// Multiplies and adds, a line for each column, and then the verdict.
+// A line for each column, and then the verdict.
 fn judge(rt: &LibcRuntime, terms: &[Term]) -> io::Result<()> {
-    let mut sum = Interval {
-        first: 0,
-        second: 0,
+    let Ok(walk) = Walk::along(rt.alloc(), terms) else {
+        return println!(rt, "  the memory does not suffice for it");
     };
-    for (column, term) in terms.iter().enumerate() {
-        match term.add_to(sum) {
-            Ok(step) => {
-                let (factor, cell, kind) = (term.factor, term.cell, term.cell.kind());
-                let multiple = step.multiple;
-                sum = step.sum;
-                println!(
-                    rt,
-                    "  column {column}: {factor} times the {kind} cell {cell} is {multiple}; the sum is {sum}"
-                )?;
-            }
-            Err(refusal) => {
-                let code = refusal.number();
-                return println!(rt, "  column {column}: refused ({code}): {refusal}");
-            }
+    for (column, (term, step)) in terms.iter().zip(walk.steps.iter()).enumerate() {
+        let (factor, cell, kind) = (term.factor, term.cell, term.cell.kind());
+        let (multiple, sum) = (step.multiple, step.sum);
+        println!(
+            rt,
+            "  column {column}: {factor} times the {kind} cell {cell} is {multiple}; the sum is {sum}"
+        )?;
+    }
+    match walk.end {
+        Ok(sum) => {
+            let verdict = Verdict::of(sum);
+            println!(rt, "  {verdict}")
+        }
+        Err(refusal) => {
+            let (column, number) = (walk.steps.len(), refusal.number());
+            println!(rt, "  column {column}: refused ({number}): {refusal}")
         }
     }
-    let verdict = Verdict::of(sum);
-    println!(rt, "  {verdict}")
 }

@@ -1,11 +1,14 @@
 // One row at fixed factors: each cell times its factor, added up, and what the sum says.
 ghost use Rattle.interval.specs.Refusals.{Answers, unless};
+ghost use Rattle.std.specs.Vec.{made};
 ghost use mathlib.Core.Bool.{_&&_};
 ghost use Rattle.interval.specs.Arithmetic.{inLimit, endsInLimit, multiple as multipleOf};
-ghost use Rattle.fitsheet.specs.Row.{stepOf, refusalOf, Judges};
+ghost use Rattle.fitsheet.specs.Row.{stepOf, refusalOf, Walked, Judges};
 use interval::Interval;
 use interval::IntervalFromEnds;
 use interval::Refusal;
+use std::alloc::AllocError;
+use std::alloc::Global;
 use std::fmt;
 
 #[derive(Clone, Copy)]
@@ -37,6 +40,41 @@ impl Term {
         Ok(Step {
             multiple,
             sum: Interval::from(ends),
+        })
+    }
+}
+
+// The steps of a row up to the first that is refused, and the row's sum or that refusal.
+#[derive(Drop)]
+pub struct Walk {
+    pub steps: Vec<Step>,
+    pub end: Result<Interval, Refusal>,
+}
+
+impl Walk {
+    pub fn along(heap: Global, terms: &[Term]) -> Result<Walk, AllocError>
+        ensures { λ r. ⌜ made r (Walked (now (terms .entry))) ⌝ }
+    {
+        let mut steps = Vec::new(heap);
+        let mut sum = Interval {
+            first: 0,
+            second: 0,
+        };
+        for term in terms {
+            match term.add_to(sum) {
+                Ok(step) => {
+                    steps.push(step)?;
+                    sum = step.sum;
+                }
+                Err(refusal) => return Ok(Walk {
+                    steps,
+                    end: Err(refusal),
+                }),
+            }
+        }
+        Ok(Walk {
+            steps,
+            end: Ok(sum),
         })
     }
 }
