@@ -22,9 +22,13 @@ use Rattle.fitsheet.specs.declared.row.Verdict.the-variants.{Balanced, Low, Hi
 abbrev pub stepOf : Interval → Term → Step
 stepOf s t = record { multiple = multiple (t .factor) (t .cell); sum = sum s (multiple (t .factor) (t .cell)) }
 
--- why a term is refused, if it is
+-- why a term's multiple is refused, if it is
+abbrev pub multipleRefusal : Term → Option ℕ
+multipleRefusal t = unless (inLimit (t .factor) && endsInLimit (t .cell)) 3
+
+-- why a term is refused after the sum s, if it is
 abbrev pub refusalOf : Interval → Term → Option ℕ
-refusalOf s t = orElse (unless (inLimit (t .factor) && endsInLimit (t .cell)) 3) (unless (endsInLimit s && endsInLimit (multiple (t .factor) (t .cell))) 3)
+refusalOf s t = orElse (multipleRefusal t) (unless (endsInLimit s && endsInLimit (multiple (t .factor) (t .cell))) 3)
 
 abbrev pub nought : Interval
 nought = pos 0 to pos 0
@@ -43,7 +47,7 @@ abbrev pub unlessRefused : Option ℕ → List Step → List Step
 unlessRefused None xs = xs
 unlessRefused (Some n) xs = []
 
--- the steps before it
+-- the steps before that refusal
 abbrev pub stepsOf : Interval → List Term → List Step
 stepsOf s [] = []
 stepsOf s (t ∷ ts) = unlessRefused (refusalOf s t) (stepOf s t ∷ stepsOf (stepOf s t .sum) ts)

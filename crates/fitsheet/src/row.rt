@@ -1,9 +1,8 @@
 // One row at fixed factors: each cell times its factor, added up, and what the sum says.
-ghost use Rattle.interval.specs.Refusals.{Answers, unless};
+ghost use Rattle.interval.specs.Refusals.{Answers};
 ghost use Rattle.std.specs.Vec.{made};
-ghost use mathlib.Core.Bool.{_&&_};
-ghost use Rattle.interval.specs.Arithmetic.{inLimit, endsInLimit, multiple as multipleOf};
-ghost use Rattle.fitsheet.specs.Row.{stepOf, refusalOf, Walked, Judges};
+ghost use Rattle.interval.specs.Arithmetic.{multiple as multipleOf};
+ghost use Rattle.fitsheet.specs.Row.{multipleRefusal, stepOf, refusalOf, Walked, Judges};
 use interval::Interval;
 use interval::IntervalFromEnds;
 use interval::Refusal;
@@ -26,7 +25,7 @@ pub struct Step {
 
 impl Term {
     pub fn multiple(self) -> Result<Interval, Refusal>
-        ensures { λ r. ⌜ Answers (unless (inLimit (self .factor) && endsInLimit (self .cell)) 3) (multipleOf (self .factor) (self .cell)) r ⌝ }
+        ensures { λ r. ⌜ Answers (multipleRefusal self) (multipleOf (self .factor) (self .cell)) r ⌝ }
     {
         let ends = self.cell.multiple(self.factor)?;
         Ok(Interval::from(ends))
