@@ -1,8 +1,7 @@
 -- Kaucher's arithmetic, for ends of any size.
-use Prim.Native.Nat.{ℕ, _≤_}
-use mathlib.Core.Bool.{Bool, cond, _&&_}
-use lib.IntN.{ℤ, pos, negℤ, natAbs, _+ℤ_, _*ℤ_}
-use lib.Dec.{leb}
+use Prim.Native.Nat.{ℕ}
+use mathlib.Core.Bool.{cond}
+use lib.IntN.{ℤ, pos, negℤ, _+ℤ_, _*ℤ_}
 use lib.Signed.{ltZ}
 use Rattle.std.specs.Numbers.{minZ, maxZ}
 use Rattle.interval.specs.declared.directed.Interval.{Interval}
@@ -14,16 +13,6 @@ use Rattle.interval.specs.Classes.{classOf}
 -- the numbers that the calls take are at most this in size
 abbrev pub limit : ℕ
 limit = 1000000000
-
-abbrev pub inLimit : ℤ → Bool
-inLimit n = leb (natAbs n) limit
-
-abbrev pub endsInLimit : Interval → Bool
-endsInLimit x = inLimit (x .first) && inLimit (x .second)
-
--- the same, as a fact
-abbrev pub Limited : Interval → Type 0
-Limited x = (natAbs (x .first) ≤ limit) × (natAbs (x .second) ≤ limit)
 
 abbrev pub ends : Interval → ℤ × ℤ
 ends x = (x .first, x .second)

@@ -1,10 +1,11 @@
--- Directed intervals: their kinds, the dual, and when one lies in another.
-use Prim.Native.Nat.{ℕ}
+-- Directed intervals: their kinds, the dual, when one lies in another, and limits on the ends.
+use Prim.Native.Nat.{ℕ, _≤_}
 use mathlib.Core.Path.{_≡_}
-use mathlib.Core.Bool.{cond}
+use mathlib.Core.Bool.{Bool, cond, _&&_}
 use mathlib.Core.List.{List, _++_}
 use lib.Chars.{codes}
-use lib.IntN.{ℤ}
+use lib.Dec.{leb}
+use lib.IntN.{ℤ, pos, natAbs}
 use lib.Signed.{ltZ, _≤ℤ_, _<ℤ_}
 use Rattle.std.specs.Written.{signed}
 use Rattle.interval.specs.declared.directed.Interval.{Interval}
@@ -15,6 +16,9 @@ use Rattle.interval.specs.declared.directed.Kind.the-variants.{Spread, Trim, F
 infix 5 _to_
 abbrev pub _to_ : ℤ → ℤ → Interval
 a to b = record { first = a; second = b }
+
+abbrev pub nought : Interval
+nought = pos 0 to pos 0
 
 abbrev pub kindOf : Interval → Kind
 kindOf x = cond (ltZ (x .first) (x .second)) Spread (cond (ltZ (x .second) (x .first)) Trim Fixed)
@@ -39,3 +43,14 @@ dual x = x .second to x .first
 
 abbrev pub LiesIn : Interval → Interval → Type 0
 LiesIn x y = (y .first ≤ℤ x .first) × (x .second ≤ℤ y .second)
+
+-- a number, and both ends of an interval, are at most n in size
+abbrev pub inLimit : ℕ → ℤ → Bool
+inLimit n z = leb (natAbs z) n
+
+abbrev pub within : ℕ → Interval → Bool
+within n x = inLimit n (x .first) && inLimit n (x .second)
+
+-- the same, as a fact
+abbrev pub Within : ℕ → Interval → Type 0
+Within n x = (natAbs (x .first) ≤ n) × (natAbs (x .second) ≤ n)

@@ -1,15 +1,17 @@
 // Kaucher's arithmetic. Each call takes numbers within ±1,000,000,000, refuses others, and answers both ends together.
 ghost use mathlib.Core.Path.{_≡_};
-ghost use mathlib.Core.Bool.{true, _&&_};
+ghost use mathlib.Core.Bool.{_&&_};
 ghost use Prim.Native.Nat.{_≤_};
 ghost use lib.IntN.{natAbs, _+ℤ_, _*ℤ_};
 ghost use Rattle.std.specs.Numbers.{minZ, maxZ};
 ghost use Rattle.interval.specs.Refusals.{unless, Answers};
-ghost use Rattle.interval.specs.Arithmetic.{limit, inLimit, endsInLimit, Limited, ends, opposite as oppositeOf, sum as sumOf, multiple as multipleOf, product as productOf};
+ghost use Rattle.interval.specs.Directed.{inLimit, within as withinOf, Within};
+ghost use Rattle.interval.specs.Arithmetic.{limit, ends, opposite as oppositeOf, sum as sumOf, multiple as multipleOf, product as productOf};
 ghost use Rattle.interval.specs.Laws.{SumLaws, MultipleLaws, ProductLaws};
 ghost use Rattle.interval.specs.Examples.{Examples};
 use crate::classes::Class;
 use crate::directed::Interval;
+use crate::directed::in_limit;
 use crate::refusals::Refusal;
 
 // No result of numbers within this limit overflows.
@@ -18,19 +20,19 @@ const LIMIT: u64 = 1_000_000_000;
 impl Interval {
     // The interval of the negatives.
     pub fn opposite(self) -> Result<(i64, i64), Refusal>
-        ensures { λ r. ⌜ Answers (unless (endsInLimit self) 3) (ends (oppositeOf self)) r ⌝ }
+        ensures { λ r. ⌜ Answers (unless (withinOf limit self) 3) (ends (oppositeOf self)) r ⌝ }
     {
-        if !self.ends_in_limit() {
+        if !self.within(LIMIT) {
             return Err(Refusal::OutsideLimit);
         }
         Ok((-self.second, -self.first))
     }
 
     pub fn sum(self, other: Interval) -> Result<(i64, i64), Refusal>
-        ensures value { λ r. ⌜ Answers (unless (endsInLimit self && endsInLimit other) 3) (ends (sumOf self other)) r ⌝ }
+        ensures value { λ r. ⌜ Answers (unless (withinOf limit self && withinOf limit other) 3) (ends (sumOf self other)) r ⌝ }
         ensures laws { λ _. ⌜ SumLaws ⌝ }
     {
-        if !self.ends_in_limit() || !other.ends_in_limit() {
+        if !self.within(LIMIT) || !other.within(LIMIT) {
             return Err(Refusal::OutsideLimit);
         }
         Ok(sum_ends(self, other))
@@ -38,42 +40,29 @@ impl Interval {
 
     // The whole number `t` times the interval.
     pub fn multiple(self, t: i64) -> Result<(i64, i64), Refusal>
-        ensures value { λ r. ⌜ Answers (unless (inLimit t && endsInLimit self) 3) (ends (multipleOf t self)) r ⌝ }
+        ensures value { λ r. ⌜ Answers (unless (inLimit limit t && withinOf limit self) 3) (ends (multipleOf t self)) r ⌝ }
         ensures laws { λ _. ⌜ MultipleLaws ⌝ }
     {
-        if !in_limit(t) || !self.ends_in_limit() {
+        if !in_limit(t, LIMIT) || !self.within(LIMIT) {
             return Err(Refusal::OutsideLimit);
         }
         Ok(multiple_ends(self, t))
     }
 
     pub fn product(self, other: Interval) -> Result<(i64, i64), Refusal>
-        ensures value { λ r. ⌜ Answers (unless (endsInLimit self && endsInLimit other) 3) (ends (productOf self other)) r ⌝ }
+        ensures value { λ r. ⌜ Answers (unless (withinOf limit self && withinOf limit other) 3) (ends (productOf self other)) r ⌝ }
         ensures laws { λ _. ⌜ ProductLaws ⌝ }
         ensures examples { λ _. ⌜ Examples ⌝ }
     {
-        if !self.ends_in_limit() || !other.ends_in_limit() {
+        if !self.within(LIMIT) || !other.within(LIMIT) {
             return Err(Refusal::OutsideLimit);
         }
         Ok(product_ends(self, other))
     }
-
-    fn ends_in_limit(self) -> bool
-        ensures value { λ r. ⌜ r ≡ endsInLimit self ⌝ }
-        ensures tells { λ r. ⌜ (r ≡ true → Limited self) ⌝ }
-    {
-        in_limit(self.first) && in_limit(self.second)
-    }
-}
-
-fn in_limit(n: i64) -> bool
-    ensures { λ r. ⌜ r ≡ inLimit n ⌝ }
-{
-    n.unsigned_abs() <= LIMIT
 }
 
 fn sum_ends(x: Interval, y: Interval) -> (i64, i64)
-    requires { ⌜ Limited x ⌝ ∗ ⌜ Limited y ⌝ }
+    requires { ⌜ Within limit x ⌝ ∗ ⌜ Within limit y ⌝ }
     ensures { λ r. ⌜ r ≡ ends (sumOf x y) ⌝ }
 {
     (plus(x.first, y.first), plus(x.second, y.second))
@@ -81,7 +70,7 @@ fn sum_ends(x: Interval, y: Interval) -> (i64, i64)
 
 // A negative multiple makes the ends change places.
 fn multiple_ends(x: Interval, t: i64) -> (i64, i64)
-    requires { ⌜ Limited x ⌝ ∗ ⌜ natAbs t ≤ limit ⌝ }
+    requires { ⌜ Within limit x ⌝ ∗ ⌜ natAbs t ≤ limit ⌝ }
     ensures { λ r. ⌜ r ≡ ends (multipleOf t x) ⌝ }
 {
     if t < 0 {
@@ -93,7 +82,7 @@ fn multiple_ends(x: Interval, t: i64) -> (i64, i64)
 
 // The sixteen cases of the two classes.
 fn product_ends(x: Interval, y: Interval) -> (i64, i64)
-    requires { ⌜ Limited x ⌝ ∗ ⌜ Limited y ⌝ }
+    requires { ⌜ Within limit x ⌝ ∗ ⌜ Within limit y ⌝ }
     ensures { λ r. ⌜ r ≡ ends (productOf x y) ⌝ }
 {
     use Class::NonNegative as P;
@@ -127,7 +116,7 @@ fn product_ends(x: Interval, y: Interval) -> (i64, i64)
 
 // The least and the greatest product of two ends, where both intervals go through zero.
 fn extremes(x: Interval, y: Interval) -> (i64, i64)
-    requires { ⌜ Limited x ⌝ ∗ ⌜ Limited y ⌝ }
+    requires { ⌜ Within limit x ⌝ ∗ ⌜ Within limit y ⌝ }
     ensures { λ r. ⌜ r ≡ (minZ (x .first *ℤ y .second) (x .second *ℤ y .first), maxZ (x .first *ℤ y .first) (x .second *ℤ y .second)) ⌝ }
 {
     let (a, b) = (x.first, x.second);

@@ -1,8 +1,9 @@
 // A directed interval: two whole numbers, of which the first need not be the lesser.
 ghost use mathlib.Core.Path.{_≡_};
+ghost use mathlib.Core.Bool.{true};
 ghost use Rattle.std.specs.Orderings.{Decides};
 ghost use Rattle.std.specs.declared.option.Option.the-variants.{Some};
-ghost use Rattle.interval.specs.Directed.{dual as dualOf, kindOf, kindText, endsText, Says, LiesIn};
+ghost use Rattle.interval.specs.Directed.{dual as dualOf, kindOf, kindText, endsText, Says, LiesIn, inLimit, within as withinOf, Within};
 use std::fmt;
 
 #[derive(Clone, Copy, PartialEq, Eq, Debug)]
@@ -48,6 +49,21 @@ impl Interval {
     {
         self.first >= other.first && self.second <= other.second
     }
+
+    // Whether both ends are at most `limit` in size.
+    pub fn within(self, limit: u64) -> bool
+        ensures value { λ r. ⌜ r ≡ withinOf limit self ⌝ }
+        ensures tells { λ r. ⌜ (r ≡ true → Within limit self) ⌝ }
+    {
+        in_limit(self.first, limit) && in_limit(self.second, limit)
+    }
+}
+
+// Whether a number is at most `limit` in size.
+pub fn in_limit(n: i64, limit: u64) -> bool
+    ensures { λ r. ⌜ r ≡ inLimit limit n ⌝ }
+{
+    n.unsigned_abs() <= limit
 }
 
 pub impl From<(i64, i64)> for Interval as IntervalFromEnds {

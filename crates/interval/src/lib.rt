@@ -19,6 +19,7 @@ pub use directed::KindDebug;
 pub use directed::KindDisplay;
 pub use directed::KindEq;
 pub use directed::KindPartialEq;
+pub use directed::in_limit;
 pub use refusals::Refusal;
 pub use refusals::RefusalDebug;
 pub use refusals::RefusalDisplay;

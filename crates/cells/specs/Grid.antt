@@ -1,0 +1,22 @@
+-- What a grid holds, and what it refuses.
+use Prim.Native.Nat.{ℕ, _+_, _*_}
+use mathlib.Core.Bool.{cond}
+use lib.Dec.{ltb}
+use lib.ListN.{getD}
+use Rattle.std.specs.declared.option.Option.{Option}
+use Rattle.std.specs.Of.Vec.{vec-items}
+use Rattle.interval.specs.declared.directed.Interval.{Interval}
+use Rattle.interval.specs.Directed.{nought, within}
+use Rattle.interval.specs.Refusals.{unless}
+use Rattle.cells.specs.declared.grid.Grid.{Grid}
+use Rattle.cells.specs.Keeping.{reach}
+
+-- where a cell stands in the list
+abbrev pub gridSlot : (r c : ℕ) → ℕ
+gridSlot r c = r * 64 + c
+
+abbrev pub gridCell : Grid → ℕ → ℕ → Interval
+gridCell g r c = cond (ltb c 64) (getD (vec-items (g .list .cells)) (gridSlot r c) nought) nought
+
+abbrev pub gridRefusal : ℕ → ℕ → Interval → Option ℕ
+gridRefusal r c v = unless (within reach v) 3

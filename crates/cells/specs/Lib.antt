@@ -1,0 +1,5 @@
+pub mod Keeping
+pub mod Grid
+pub mod Band
+pub mod Slots
+pub mod Parts

@@ -1,0 +1,95 @@
+// What a band takes and gives.
+ghost use mathlib.Core.Path.{_≡_};
+ghost use mathlib.Core.Bool.{true};
+ghost use Rattle.std.specs.Vec.{made};
+ghost use Rattle.cells.specs.Band.{keeps, bandSlot, bandCell, bandRefusal, Shaped, Shapes};
+use crate::band::Band;
+use crate::keeping::Cells;
+use crate::keeping::REACH;
+use crate::lists::CellList;
+use crate::lists::NOUGHT;
+use crate::places::Place;
+use interval::Interval;
+use interval::Refusal;
+use std::alloc::AllocError;
+use std::alloc::Global;
+
+const MAX_WIDTH: usize = 8;
+
+const STRIDE: usize = 18;
+
+const LAST_SLOT: usize = 17;
+
+const SIZE: usize = 1152;
+
+impl Band {
+    // A band of width 0 on a sheet of one column, its cells (0, 0).
+    pub fn new(heap: Global) -> Result<Band, AllocError>
+        ensures { λ r. ⌜ made r (Shaped 0 0) ⌝ }
+    {
+        let list = CellList::new(heap, SIZE)?;
+        Ok(Band {
+            width: 0,
+            last: 0,
+            list,
+        })
+    }
+
+    // Sets the width and the last column, and makes every cell (0, 0).
+    pub fn shape(&mut self, width: usize, last: usize) -> Result<(), Refusal>
+        ensures { λ r. ⌜ Shapes width last (now (self .entry)) (now (self .exit)) r ⌝ }
+    {
+        if width > MAX_WIDTH {
+            return Err(Refusal::OutsideLimit);
+        }
+        self.width = width;
+        self.last = last;
+        self.list.clear();
+        Ok(())
+    }
+
+    fn keeps(&self, place: &Place) -> bool
+        ensures { λ r. ⌜ r ≡ keeps (now (self .entry)) (now (place .entry) .row) (now (place .entry) .column) ⌝ }
+    {
+        let (row, column) = (place.row, place.column);
+        column == self.last || (column <= row + self.width && row <= column + self.width)
+    }
+
+    fn slot(&self, place: &Place) -> usize
+        requires { ⌜ keeps (now self) (now place .row) (now place .column) ≡ true ⌝ }
+        ensures { λ r. ⌜ r ≡ bandSlot (now (self .entry) .last) (now (place .entry) .row) (now (place .entry) .column) ⌝ }
+    {
+        let offset = if place.column == self.last {
+            LAST_SLOT
+        } else {
+            place.column + MAX_WIDTH - place.row
+        };
+        place.row * STRIDE + offset
+    }
+}
+
+pub impl Cells for Band as BandCells {
+    ghost cell = { bandCell };
+
+    ghost refuses = { bandRefusal };
+
+    fn get(&self, place: Place) -> Interval {
+        if self.keeps(&place) {
+            self.list.get(self.slot(&place))
+        } else {
+            NOUGHT
+        }
+    }
+
+    fn put(&mut self, place: Place, value: Interval) -> Result<(), Refusal> {
+        if !value.within(REACH) {
+            return Err(Refusal::OutsideLimit);
+        }
+        if !self.keeps(&place) {
+            return Err(Refusal::NotKept);
+        }
+        let slot = self.slot(&place);
+        self.list.set(slot, value);
+        Ok(())
+    }
+}

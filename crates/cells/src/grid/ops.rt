@@ -1,0 +1,59 @@
+// What a grid takes and gives.
+ghost use mathlib.Core.Path.{_≡_};
+ghost use Rattle.std.specs.Vec.{made};
+ghost use Rattle.interval.specs.Directed.{nought};
+ghost use Rattle.cells.specs.Grid.{gridSlot, gridCell, gridRefusal};
+use crate::grid::Grid;
+use crate::keeping::Cells;
+use crate::keeping::REACH;
+use crate::lists::CellList;
+use crate::places::Place;
+use interval::Interval;
+use interval::Refusal;
+use std::alloc::AllocError;
+use std::alloc::Global;
+
+const STRIDE: usize = 64;
+
+const SIZE: usize = 4096;
+
+impl Grid {
+    // A grid of cells (0, 0).
+    pub fn new(heap: Global) -> Result<Grid, AllocError>
+        ensures { λ r. ⌜ made r (λ g. gridCell g ≡ (λ _ _. nought)) ⌝ }
+    {
+        let list = CellList::new(heap, SIZE)?;
+        Ok(Grid { list })
+    }
+
+    // Makes every cell (0, 0).
+    pub fn clear(&mut self)
+        ensures { λ _. ⌜ gridCell (now (self .exit)) ≡ (λ _ _. nought) ⌝ }
+    {
+        self.list.clear();
+    }
+}
+
+fn slot(place: &Place) -> usize
+    ensures { λ r. ⌜ r ≡ gridSlot (now (place .entry) .row) (now (place .entry) .column) ⌝ }
+{
+    place.row * STRIDE + place.column
+}
+
+pub impl Cells for Grid as GridCells {
+    ghost cell = { gridCell };
+
+    ghost refuses = { λ _. gridRefusal };
+
+    fn get(&self, place: Place) -> Interval {
+        self.list.get(slot(&place))
+    }
+
+    fn put(&mut self, place: Place, value: Interval) -> Result<(), Refusal> {
+        if !value.within(REACH) {
+            return Err(Refusal::OutsideLimit);
+        }
+        self.list.set(slot(&place), value);
+        Ok(())
+    }
+}

@@ -1,0 +1,30 @@
+// What keeps cells.
+ghost use Prim.Native.Nat.{ℕ};
+ghost use mathlib.Core.Path.{_≡_};
+ghost use Rattle.std.specs.declared.option.Option.{Option};
+ghost use Rattle.interval.specs.declared.directed.Interval.{Interval as Kept};
+ghost use Rattle.interval.specs.Directed.{Within};
+ghost use Rattle.interval.specs.Refusals.{Changes};
+ghost use Rattle.cells.specs.Keeping.{reach, withValue, WhenRefused};
+use crate::places::Place;
+use interval::Interval;
+use interval::Refusal;
+
+// The reach of everything that keeps cells.
+pub const REACH: u64 = 100_000;
+
+// `cell` is what each place holds, and `refuses` the number with which each put would be refused now.
+pub trait Cells {
+    ghost cell: { Self → ℕ → ℕ → Kept };
+
+    ghost refuses: { Self → ℕ → ℕ → Kept → Option ℕ };
+
+    law near: { (s : Self) (r c : ℕ) → Within reach (cell s r c) };
+
+    fn get(&self, place: Place) -> Interval
+        ensures { λ r. ⌜ r ≡ cell (now (self .entry)) (place .row) (place .column) ⌝ };
+
+    fn put(&mut self, place: Place, value: Interval) -> Result<(), Refusal>
+        ensures changes { λ r. ⌜ Changes (refuses (now (self .entry)) (place .row) (place .column) value) (withValue (place .row) (place .column) value) (cell (now (self .entry))) (cell (now (self .exit))) r ⌝ }
+        ensures steady { λ r. ⌜ WhenRefused (refuses (now (self .exit)) ≡ refuses (now (self .entry))) r ⌝ };
+}

@@ -1,0 +1,63 @@
+// A list of cells within the reach, of one length from its making on.
+ghost use Prim.Native.Nat.{ℕ, _<_};
+ghost use mathlib.Core.Path.{_≡_};
+ghost use mathlib.Core.Bool.{true};
+ghost use lib.ListN.{getD, set, replicate};
+ghost use Rattle.std.specs.Of.Vec.{vec-items, vec-len};
+ghost use Rattle.std.specs.Vec.{made};
+ghost use Rattle.interval.specs.Directed.{nought, within as withinOf};
+ghost use Rattle.cells.specs.Keeping.{reach};
+use interval::Interval;
+use std::alloc::AllocError;
+use std::alloc::Global;
+
+pub(crate) const NOUGHT: Interval = Interval {
+    first: 0,
+    second: 0,
+};
+
+#[derive(Drop)]
+pub struct CellList {
+    cells: Vec<Interval>,
+    ghost near: { (k : ℕ) → withinOf reach (getD (vec-items cells) k nought) ≡ true },
+}
+
+impl CellList {
+    pub(crate) fn new(heap: Global, count: usize) -> Result<CellList, AllocError>
+        ensures { λ r. ⌜ made r (λ l. vec-items (l .cells) ≡ replicate count nought) ⌝ }
+    {
+        let cells = vec![in heap; NOUGHT; count]?;
+        Ok(CellList { cells })
+    }
+
+    pub(crate) fn clear(&mut self)
+        ensures cells { λ _. ⌜ vec-items (now (self .exit) .cells) ≡ replicate (vec-len (now (self .entry) .cells)) nought ⌝ }
+        ensures length { λ _. ⌜ vec-len (now (self .exit) .cells) ≡ vec-len (now (self .entry) .cells) ⌝ }
+    {
+        wipe(&mut self.cells);
+    }
+
+    pub(crate) fn get(&self, slot: usize) -> Interval
+        requires { ⌜ slot < vec-len (now self .cells) ⌝ }
+        ensures { λ r. ⌜ r ≡ getD (vec-items (now (self .entry) .cells)) slot nought ⌝ }
+    {
+        self.cells[slot]
+    }
+
+    pub(crate) fn set(&mut self, slot: usize, value: Interval)
+        requires { ⌜ slot < vec-len (now self .cells) ⌝ ∗ ⌜ withinOf reach value ≡ true ⌝ }
+        ensures cells { λ _. ⌜ vec-items (now (self .exit) .cells) ≡ set (vec-items (now (self .entry) .cells)) slot value ⌝ }
+        ensures length { λ _. ⌜ vec-len (now (self .exit) .cells) ≡ vec-len (now (self .entry) .cells) ⌝ }
+    {
+        self.cells[slot] = value;
+    }
+}
+
+fn wipe(cells: &mut Vec<Interval>)
+    ensures cells { λ _. ⌜ vec-items (now (cells .exit)) ≡ replicate (vec-len (now (cells .entry))) nought ⌝ }
+    ensures length { λ _. ⌜ vec-len (now (cells .exit)) ≡ vec-len (now (cells .entry)) ⌝ }
+{
+    for i in 0..cells.len() {
+        cells[i] = NOUGHT;
+    }
+}

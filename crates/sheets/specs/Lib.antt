@@ -1,0 +1,6 @@
+pub mod Holding
+pub mod Frame
+pub mod Bottom
+pub mod Full
+pub mod Banded
+pub mod Parts

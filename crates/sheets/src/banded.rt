@@ -1,0 +1,38 @@
+// The banded sheet: it keeps the cells near the diagonal, and the last column.
+ghost use Rattle.std.specs.Vec.{made};
+ghost use mathlib.Core.Path.{_≡_};
+ghost use Rattle.interval.specs.Refusals.{Changes, orElse};
+ghost use Rattle.cells.specs.Band.{widthRefusal};
+ghost use Rattle.sheets.specs.Frame.{countsRefusal};
+ghost use Rattle.sheets.specs.Banded.{bandedState, blankBanded};
+use crate::bottom::Bottom;
+use crate::frame::Frame;
+use cells::Band;
+use interval::Refusal;
+use std::alloc::AllocError;
+use std::alloc::Global;
+
+pub type Banded = Bottom<Band>;
+
+impl Bottom<Band> {
+    // The width is 0, until the sheet is sized.
+    pub fn new(heap: Global) -> Result<Banded, AllocError>
+        ensures { λ r. ⌜ made r (λ s. bandedState s ≡ blankBanded 1 1 0) ⌝ }
+    {
+        let cells = Band::new(heap)?;
+        Ok(Bottom {
+            frame: Frame::new(),
+            cells,
+        })
+    }
+
+    // Sets the counts and the width, makes every cell (0, 0), and frees every column.
+    pub fn size(&mut self, rows: usize, columns: usize, width: usize) -> Result<(), Refusal>
+        ensures { λ r. ⌜ Changes (orElse (countsRefusal rows columns) (widthRefusal width)) (λ _. blankBanded rows columns width) (bandedState (now (self .entry))) (bandedState (now (self .exit))) r ⌝ }
+    {
+        let frame = Frame::sized(rows, columns)?;
+        self.cells.shape(width, columns - 1)?;
+        self.frame = frame;
+        Ok(())
+    }
+}

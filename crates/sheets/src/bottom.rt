@@ -1,0 +1,84 @@
+// A bottom: a frame, and what keeps its cells.
+ghost use mathlib.Core.Path.{_≡_};
+ghost use Rattle.interval.specs.Refusals.{Changes};
+ghost use Rattle.cells.specs.Keeping.{withValue, WhenRefused};
+ghost use Rattle.sheets.specs.Frame.{outline};
+ghost use Rattle.sheets.specs.Bottom.{modelOf, stateOf, putRefusal};
+use crate::frame::Frame;
+use cells::Cells;
+use cells::REACH;
+use interval::Interval;
+use interval::Refusal;
+use system::PutFault;
+use system::Sheet;
+use system::System;
+
+// Every sheet refuses a value beyond this, whatever its own rules.
+const MAX_REACH: u64 = 10_000_000;
+
+#[derive(Drop)]
+pub struct Bottom<C> {
+    pub(crate) frame: Frame,
+    pub(crate) cells: C,
+}
+
+impl<C: Cells> Bottom<C> {
+    // Puts a value where the place is there, the value is within every limit, and what keeps the cells takes it.
+    fn store(&mut self, row: usize, column: usize, value: Interval) -> Result<(), Refusal>
+        ensures changes { λ r. ⌜ Changes (putRefusal (outline (now (self .entry) .frame)) (C·Cells .refuses (now (self .entry) .cells)) row column value) (withValue row column value) (C·Cells .cell (now (self .entry) .cells)) (C·Cells .cell (now (self .exit) .cells)) r ⌝ }
+        ensures steady { λ r. ⌜ WhenRefused (C·Cells .refuses (now (self .exit) .cells) ≡ C·Cells .refuses (now (self .entry) .cells)) r ⌝ }
+        ensures frame { λ _. ⌜ now (self .exit) .frame ≡ now (self .entry) .frame ⌝ }
+    {
+        let place = self.frame.place(row, column)?;
+        if !value.within(MAX_REACH) {
+            return Err(Refusal::OutsideLimit);
+        }
+        self.cells.put(place, value)
+    }
+}
+
+pub impl<C: Cells> System for Bottom<C> as BottomSystem {
+    ghost meaning = { λ s. modelOf (outline (s .frame)) (C·Cells .cell (s .cells)) };
+
+    fn rows(&self) -> usize {
+        self.frame.rows()
+    }
+
+    fn columns(&self) -> usize {
+        self.frame.columns()
+    }
+
+    fn reach(&self) -> u64 {
+        REACH
+    }
+
+    fn cell(&self, row: usize, column: usize) -> Result<Interval, Refusal> {
+        let place = self.frame.place(row, column)?;
+        Ok(self.cells.get(place))
+    }
+
+    fn held(&self, column: usize) -> Result<Option<i64>, Refusal> {
+        self.frame.held(column)
+    }
+}
+
+pub impl<C: Cells> Sheet for Bottom<C> as BottomSheet {
+    ghost refuses = { λ s. stateOf (modelOf (outline (s .frame)) (C·Cells .cell (s .cells))) (C·Cells .refuses (s .cells)) .refuses };
+
+    fn put(&mut self, row: usize, column: usize, value: Interval) -> Result<(), PutFault> {
+        match self.store(row, column, value) {
+            Ok(()) => Ok(()),
+            Err(refusal) => Err(PutFault::at(refusal, row, column)),
+        }
+    }
+
+    fn hold(&mut self, column: usize, number: i64) -> Result<(), Refusal> {
+        self.frame.hold(column, number)?;
+        Ok(())
+    }
+
+    fn free(&mut self, column: usize) -> Result<(), Refusal> {
+        self.frame.free(column)?;
+        Ok(())
+    }
+}

@@ -1,0 +1,31 @@
+// The parts sheet: it keeps up to 128 cells that are not (0, 0).
+ghost use mathlib.Core.Path.{_≡_};
+ghost use Rattle.interval.specs.Refusals.{Changes};
+ghost use Rattle.sheets.specs.Frame.{countsRefusal};
+ghost use Rattle.sheets.specs.Parts.{partsState, blankParts};
+use crate::bottom::Bottom;
+use crate::frame::Frame;
+use cells::PartTable;
+use interval::Refusal;
+
+pub type Parts = Bottom<PartTable>;
+
+impl Bottom<PartTable> {
+    pub fn new() -> Parts
+        ensures { λ r. ⌜ partsState r ≡ blankParts 1 1 ⌝ }
+    {
+        Bottom {
+            frame: Frame::new(),
+            cells: PartTable::new(),
+        }
+    }
+
+    // Sets the counts, takes every part off, and frees every column.
+    pub fn size(&mut self, rows: usize, columns: usize) -> Result<(), Refusal>
+        ensures { λ r. ⌜ Changes (countsRefusal rows columns) (λ _. blankParts rows columns) (partsState (now (self .entry))) (partsState (now (self .exit))) r ⌝ }
+    {
+        self.frame = Frame::sized(rows, columns)?;
+        self.cells.clear();
+        Ok(())
+    }
+}

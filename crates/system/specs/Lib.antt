@@ -1,0 +1,4 @@
+pub mod Reading
+pub mod Faults
+pub mod Writing
+pub mod Comparison

@@ -1,0 +1,53 @@
+-- What is read from a system, and its bounds.
+use Prim.Native.Nat.{ℕ, _≤_, _<_}
+use mathlib.Core.Bool.{Bool, cond, _&&_}
+use lib.Dec.{eqb, ltb}
+use lib.IntN.{ℤ, natAbs}
+use Rattle.std.specs.declared.option.Option.{Option}
+use Rattle.std.specs.declared.option.Option.the-variants.{Some, None}
+use Rattle.interval.specs.declared.directed.Interval.{Interval}
+use Rattle.interval.specs.Directed.{Within}
+
+pub record Model : Type 0 where
+  pub rows : ℕ
+  pub columns : ℕ
+  pub reach : ℕ
+  pub cell : ℕ → ℕ → Interval
+  -- the number at which a column is held, or nothing where it is free
+  pub held : ℕ → Option ℤ
+
+abbrev pub maxCount : ℕ
+maxCount = 64
+
+abbrev pub maxReach : ℕ
+maxReach = 10000000
+
+abbrev pub maxHeld : ℕ
+maxHeld = 1000
+
+-- the row and the column are there, and the column is
+abbrev pub hasPlace : Model → ℕ → ℕ → Bool
+hasPlace m r c = ltb r (m .rows) && ltb c (m .columns)
+
+abbrev pub hasColumn : Model → ℕ → Bool
+hasColumn m c = ltb c (m .columns)
+
+abbrev pub HeldWithin : Option ℤ → Type 0
+HeldWithin None = Unit {0}
+HeldWithin (Some k) = natAbs k ≤ maxHeld
+
+pub record Bounded (m : Model) : Type 0 where
+  pub some-rows : 1 ≤ m .rows
+  pub few-rows : m .rows ≤ maxCount
+  pub some-columns : 1 ≤ m .columns
+  pub few-columns : m .columns ≤ maxCount
+  pub small-reach : m .reach ≤ maxReach
+  pub cells : (r c : ℕ) → r < m .rows → c < m .columns → Within (m .reach) (m .cell r c)
+  pub numbers : (c : ℕ) → c < m .columns → HeldWithin (m .held c)
+
+-- the same system but for one cell, or but for one column's held number
+abbrev pub withCell : ℕ → ℕ → Interval → Model → Model
+withCell r c v m = record { rows = m .rows; columns = m .columns; reach = m .reach; cell = λ i j. cond (eqb i r && eqb j c) v (m .cell i j); held = m .held }
+
+abbrev pub withHeld : ℕ → Option ℤ → Model → Model
+withHeld c k m = record { rows = m .rows; columns = m .columns; reach = m .reach; cell = m .cell; held = λ j. cond (eqb j c) k (m .held j) }
