@@ -1,20 +1,19 @@
 -- Cells that stand in a list, each at its slot.
 use Prim.Native.Nat.{ℕ, _+_, _-_, _*_, _<_, _≤_}
 use native.Mathlib.Omega.{arith}
-use mathlib.Core.Path.{_≡_, refl, ap, ap₂, sym, _∙_}
+use mathlib.Core.Path.{_≡_, ap, ap₂, sym, _∙_}
 use mathlib.Core.Bool.{Bool, true, false, cond, _&&_}
 use mathlib.Core.List.{List}
 use mathlib.Core.Logic.{_⊎_, inl, inr, ⊎-elim}
 use lib.Dec.{eqb}
-use lib.ListN.{length, getD, set, replicate}
+use lib.ListN.{length, getD, set}
 use Rattle.std.proofs.shelf.Lists.{getD-set-same, getD-set-other}
-use Rattle.std.proofs.shelf.Tests.{cases-eq, cases-bool, both-ways, eq-eqb, ne-eqb, and-from, and-left, and-right, cond-true, cond-false, cond-both}
+use Rattle.std.proofs.shelf.Tests.{cases-eq, cases-bool, both-ways, eq-eqb, ne-eqb, and-from, and-left, and-right, cond-true, cond-false}
 use Rattle.std.proofs.shelf.Ways.{tells}
 use Rattle.interval.specs.declared.directed.Interval.{Interval}
 use Rattle.interval.specs.Directed.{nought}
 use Rattle.cells.specs.Keeping.{withValue}
 use Rattle.cells.specs.Band.{inBand, bandSlot}
-use Rattle.cells.proofs.Filled.{getD-same}
 
 elsewhere : (r c i j : ℕ) → (i ≡ r → j ≡ c → ⊥) → (eqb i r && eqb j c) ≡ false
 elsewhere r c i j apart = ⊎-elim (λ e. and-right (eqb i r) (eqb j c) (ne-eqb j c (apart e))) (λ e. and-left (eqb i r) (eqb j c) (ne-eqb i r e)) (cases-eq i r)
@@ -22,9 +21,6 @@ elsewhere r c i j apart = ⊎-elim (λ e. and-right (eqb i r) (eqb j c) (ne-eqb 
 module _ (keep : ℕ → ℕ → Bool) (slot : ℕ → ℕ → ℕ) where
   abbrev pub slotted : List Interval → ℕ → ℕ → Interval
   slotted xs i j = cond (keep i j) (getD xs (slot i j) nought) nought
-
-  pub slotted-blank : (xs : List Interval) (n : ℕ) → xs ≡ replicate n nought → (i j : ℕ) → slotted xs i j ≡ nought
-  slotted-blank xs n e i j = ap (λ ys. slotted ys i j) e ∙ cond-both (keep i j) (getD (replicate n nought) (slot i j) nought) nought (λ z. z ≡ nought) (λ _. getD-same n (slot i j) nought) (λ _. refl)
 
   -- where no other place that is kept has the slot of (r, c), a write there changes that cell alone
   pub slotted-set : (xs ys : List Interval) (r c : ℕ) (v : Interval) → ys ≡ set xs (slot r c) v → keep r c ≡ true → slot r c < length xs

@@ -1,4 +1,5 @@
 pub mod Keeping
+pub mod Lists
 pub mod Grid
 pub mod Band
 pub mod Slots

@@ -2,11 +2,12 @@
 ghost use Prim.Native.Nat.{ℕ, _<_};
 ghost use mathlib.Core.Path.{_≡_};
 ghost use mathlib.Core.Bool.{true};
-ghost use lib.ListN.{getD, set, replicate};
+ghost use lib.ListN.{getD, set};
 ghost use Rattle.std.specs.Of.Vec.{vec-items, vec-len};
 ghost use Rattle.std.specs.Vec.{made};
 ghost use Rattle.interval.specs.Directed.{nought, within as withinOf};
 ghost use Rattle.cells.specs.Keeping.{reach};
+ghost use Rattle.cells.specs.Lists.{Blank};
 use interval::Interval;
 use std::alloc::AllocError;
 use std::alloc::Global;
@@ -24,14 +25,14 @@ pub struct CellList {
 
 impl CellList {
     pub(crate) fn new(heap: Global, count: usize) -> Result<CellList, AllocError>
-        ensures { λ r. ⌜ made r (λ l. vec-items (l .cells) ≡ replicate count nought) ⌝ }
+        ensures { λ r. ⌜ made r (λ l. (vec-len (l .cells) ≡ count) × Blank (vec-items (l .cells))) ⌝ }
     {
         let cells = vec![in heap; NOUGHT; count]?;
         Ok(CellList { cells })
     }
 
     pub(crate) fn clear(&mut self)
-        ensures cells { λ _. ⌜ vec-items (now (self .exit) .cells) ≡ replicate (vec-len (now (self .entry) .cells)) nought ⌝ }
+        ensures cells { λ _. ⌜ Blank (vec-items (now (self .exit) .cells)) ⌝ }
         ensures length { λ _. ⌜ vec-len (now (self .exit) .cells) ≡ vec-len (now (self .entry) .cells) ⌝ }
     {
         wipe(&mut self.cells);
@@ -54,7 +55,7 @@ impl CellList {
 }
 
 fn wipe(cells: &mut Vec<Interval>)
-    ensures cells { λ _. ⌜ vec-items (now (cells .exit)) ≡ replicate (vec-len (now (cells .entry))) nought ⌝ }
+    ensures cells { λ _. ⌜ Blank (vec-items (now (cells .exit))) ⌝ }
     ensures length { λ _. ⌜ vec-len (now (cells .exit)) ≡ vec-len (now (cells .entry)) ⌝ }
 {
     for i in 0..cells.len() {

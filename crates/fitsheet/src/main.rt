@@ -1,28 +1,58 @@
-// Reads rows of directed intervals with a whole factor for each, and says of each row whether it balances.
+// Reads a script of commands on three sheets, and answers each line.
+mod bench;
+mod commands;
 mod reading;
-mod row;
+mod rows;
+mod table;
 
-use interval::IntervalDisplay;
-use interval::KindDisplay;
-use interval::RefusalDisplay;
-use reading::FaultDisplay;
-use reading::read_row;
-use row::Term;
-use row::Verdict;
-use row::VerdictDisplay;
-use row::Walk;
+use bench::Bench;
+use commands::read_command;
+use reading::ComplaintDisplay;
+use std::env;
+use std::fs::File;
 use std::io;
+use std::io::BufRead;
+use std::io::BufReader;
 use std::io::ErrorKind;
+use std::io::Read;
 
 fn main(rt: LibcRuntime) -> io::Result<()> {
-    rt.report(answer_lines(&rt))
+    rt.report(answer_inputs(&rt))
 }
 
-fn answer_lines(rt: &LibcRuntime) -> io::Result<()> {
-    for (index, line) in rt.lines(rt.alloc()).enumerate() {
+// Each argument names a file, and `-` standard input, which is read too if there is no argument.
+fn answer_inputs(rt: &LibcRuntime) -> io::Result<()> {
+    let mut bench = Bench::new(rt.alloc())?;
+    let mut named = false;
+    for name in env::args(rt)?.skip(1) {
+        named = true;
+        if name.as_str() == "-" {
+            answer_lines(rt, &mut bench, rt.stdin())?;
+        } else {
+            answer_lines(rt, &mut bench, open(rt, name.as_str())?)?;
+        }
+    }
+    if named {
+        return Ok(());
+    }
+    answer_lines(rt, &mut bench, rt.stdin())
+}
+
+fn open(rt: &LibcRuntime, name: &str) -> io::Result<File> {
+    match File::open(rt, name) {
+        Ok(file) => Ok(file),
+        Err(e) => {
+            eprintln!(rt, "{name} cannot be opened")?;
+            Err(e)
+        }
+    }
+}
+
+fn answer_lines<R: Read + Drop>(rt: &LibcRuntime, bench: &mut Bench, input: R) -> io::Result<()> {
+    for (index, line) in BufReader::new(input).lines(rt.alloc()).enumerate() {
         let number = index.saturating_add(1);
         match line {
-            Ok(text) => answer(rt, number, text.as_str().trim())?,
+            Ok(text) => answer(rt, bench, number, text.as_str().trim())?,
             Err(e) if e.kind() == ErrorKind::InvalidData => println!(
                 rt,
                 "line {number}: this is not text"
@@ -33,37 +63,13 @@ fn answer_lines(rt: &LibcRuntime) -> io::Result<()> {
     Ok(())
 }
 
-fn answer(rt: &LibcRuntime, number: usize, line: &str) -> io::Result<()> {
-    match read_row(rt.alloc(), line) {
-        Ok(terms) => {
-            println!(rt, "line {number}: {line}")?;
-            judge(rt, terms.as_slice())
-        }
-        Err(fault) => println!(rt, "line {number}: {fault}"),
+fn answer(rt: &LibcRuntime, bench: &mut Bench, number: usize, line: &str) -> io::Result<()> {
+    if line.is_empty() || line.starts_with('#') {
+        return Ok(());
     }
-}
-
-// A line for each column, and then the verdict.
-fn judge(rt: &LibcRuntime, terms: &[Term]) -> io::Result<()> {
-    let Ok(walk) = Walk::along(rt.alloc(), terms) else {
-        return println!(rt, "  the memory does not suffice for it");
-    };
-    for (column, (term, step)) in terms.iter().zip(walk.steps.iter()).enumerate() {
-        let (factor, cell, kind) = (term.factor, term.cell, term.cell.kind());
-        let (multiple, sum) = (step.multiple, step.sum);
-        println!(
-            rt,
-            "  column {column}: {factor} times the {kind} cell {cell} is {multiple}; the sum is {sum}"
-        )?;
-    }
-    match walk.end {
-        Ok(sum) => {
-            let verdict = Verdict::of(sum);
-            println!(rt, "  {verdict}")
-        }
-        Err(refusal) => {
-            let (column, number) = (walk.steps.len(), refusal.number());
-            println!(rt, "  column {column}: refused ({number}): {refusal}")
-        }
+    println!(rt, "line {number}: {line}")?;
+    match read_command(line) {
+        Ok(command) => bench.answer(rt, command),
+        Err(complaint) => println!(rt, "  not understood: {complaint}"),
     }
 }

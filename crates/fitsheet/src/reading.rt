@@ -1,114 +1,88 @@
-// A row as text: `(2, 3) at 2; (9, 5) at -1`, for each column the two ends of its cell and the factor.
-use crate::row::Term;
+// Words, numbers and intervals as text.
 use interval::Interval;
-use interval::Refusal;
-use interval::RefusalDisplay;
-use std::alloc::Global;
 use std::fmt;
 use std::num::IntErrorKind;
 
-// What is wrong with a line.
+// Why a line is no command.
 #[derive(Clone, Copy)]
-pub enum Fault<'a> {
-    Empty,
-    Column(usize, TermFault<'a>),
-    Memory,
-}
-
-// What is wrong with a column of it.
-#[derive(Clone, Copy)]
-pub enum TermFault<'a> {
-    Shape(&'a str),
-    NoFactor,
+pub enum Complaint<'a> {
+    Unknown(&'a str),
+    Usage(&'static str),
+    NotAPlace(&'a str),
     NotANumber(&'a str),
-    Refused(Refusal),
+    TooLong(&'a str),
 }
 
-pub(crate) fn read_row<'a>(heap: Global, line: &'a str) -> Result<Vec<Term>, Fault<'a>> {
-    if line.trim().is_empty() {
-        return Err(Fault::Empty);
+// The first word, and what follows it.
+pub(crate) fn word(text: &str) -> (&str, &str) {
+    match text.split_once(' ') {
+        Some((first, rest)) => (first, rest.trim()),
+        None => (text, ""),
     }
-    let mut terms = Vec::new(heap);
-    for (column, text) in line.split(';').enumerate() {
-        match read_term(text) {
-            Ok(term) => {
-                if terms.push(term).is_err() {
-                    return Err(Fault::Memory);
-                }
-            }
-            Err(fault) => return Err(Fault::Column(column, fault)),
-        }
-    }
-    Ok(terms)
 }
 
-fn read_term(text: &str) -> Result<Term, TermFault<'_>> {
-    let text = text.trim();
-    let Some(open) = text.strip_prefix('(') else {
-        return Err(TermFault::Shape(text));
-    };
-    let Some((ends, rest)) = open.split_once(')') else {
-        return Err(TermFault::Shape(text));
-    };
-    let Some((first, second)) = ends.split_once(',') else {
-        return Err(TermFault::Shape(text));
-    };
-    let rest = rest.trim();
-    if rest.is_empty() || rest == "at" {
-        return Err(TermFault::NoFactor);
+// A row, a column, a count or a width, and what follows it.
+pub(crate) fn read_place<'a>(
+    text: &'a str,
+    usage: &'static str,
+) -> Result<(usize, &'a str), Complaint<'a>> {
+    let (first, rest) = word(text);
+    if first.is_empty() {
+        return Err(Complaint::Usage(usage));
     }
-    let Some(factor) = rest.strip_prefix("at") else {
-        return Err(TermFault::Shape(text));
-    };
-    let cell = Interval {
-        first: read_number(first)?,
-        second: read_number(second)?,
-    };
-    Ok(Term {
-        cell,
-        factor: read_number(factor)?,
-    })
-}
-
-fn read_number(text: &str) -> Result<i64, TermFault<'_>> {
-    let text = text.trim();
-    match text.parse::<i64>() {
-        Ok(n) => Ok(n),
+    match first.parse::<usize>() {
+        Ok(n) => Ok((n, rest)),
         Err(e) => match e.kind() {
-            IntErrorKind::PosOverflow | IntErrorKind::NegOverflow => Err(TermFault::Refused(
-                Refusal::OutsideLimit,
-            )),
-            _ => Err(TermFault::NotANumber(text)),
+            IntErrorKind::PosOverflow => Err(Complaint::TooLong(first)),
+            _ => Err(Complaint::NotAPlace(first)),
         },
     }
 }
 
-pub impl fmt::Display for Fault<'_> as FaultDisplay {
-    fn fmt<W: fmt::Write>(&self, f: &mut fmt::Formatter<W>) -> fmt::Result {
-        match self {
-            Fault::Empty => write!(f, "the line is empty"),
-            Fault::Memory => write!(f, "the memory does not suffice for it"),
-            Fault::Column(column, fault) => write!(f, "column {column}: {fault}"),
-        }
+pub(crate) fn read_number<'a>(text: &'a str, usage: &'static str) -> Result<i64, Complaint<'a>> {
+    if text.is_empty() {
+        return Err(Complaint::Usage(usage));
+    }
+    match text.parse::<i64>() {
+        Ok(n) => Ok(n),
+        Err(e) => match e.kind() {
+            IntErrorKind::PosOverflow | IntErrorKind::NegOverflow => Err(Complaint::TooLong(text)),
+            _ => Err(Complaint::NotANumber(text)),
+        },
     }
 }
 
-pub impl fmt::Display for TermFault<'_> as TermFaultDisplay {
+// `(2, 3)`.
+pub(crate) fn read_interval<'a>(
+    text: &'a str,
+    usage: &'static str,
+) -> Result<Interval, Complaint<'a>> {
+    let Some(open) = text.strip_prefix('(') else {
+        return Err(Complaint::Usage(usage));
+    };
+    let Some(ends) = open.strip_suffix(')') else {
+        return Err(Complaint::Usage(usage));
+    };
+    let Some((first, second)) = ends.split_once(',') else {
+        return Err(Complaint::Usage(usage));
+    };
+    Ok(Interval {
+        first: read_number(first.trim(), usage)?,
+        second: read_number(second.trim(), usage)?,
+    })
+}
+
+pub impl fmt::Display for Complaint<'_> as ComplaintDisplay {
     fn fmt<W: fmt::Write>(&self, f: &mut fmt::Formatter<W>) -> fmt::Result {
         match self {
-            TermFault::Shape(text) => write!(
+            Complaint::Unknown(text) => write!(
                 f,
-                "'{text}' is not written as (first, second) at factor"
+                "'{text}' is neither row nor same nor a sheet (full, banded or parts)"
             ),
-            TermFault::NoFactor => write!(
-                f,
-                "the factor is missing; write (first, second) at factor"
-            ),
-            TermFault::NotANumber(text) => write!(f, "'{text}' is not a whole number"),
-            TermFault::Refused(refusal) => {
-                let code = refusal.number();
-                write!(f, "refused ({code}): {refusal}")
-            }
+            Complaint::Usage(usage) => write!(f, "write {usage}"),
+            Complaint::NotAPlace(text) => write!(f, "'{text}' is not a whole number from 0 on"),
+            Complaint::NotANumber(text) => write!(f, "'{text}' is not a whole number"),
+            Complaint::TooLong(text) => write!(f, "'{text}' does not fit 64 bits"),
         }
     }
 }

@@ -25,7 +25,7 @@ pub struct Bottom<C> {
 impl<C: Cells> Bottom<C> {
     // Puts a value where the place is there, the value is within every limit, and what keeps the cells takes it.
     fn store(&mut self, row: usize, column: usize, value: Interval) -> Result<(), Refusal>
-        ensures changes { λ r. ⌜ Changes (putRefusal (outline (now (self .entry) .frame)) (C·Cells .refuses (now (self .entry) .cells)) row column value) (withValue row column value) (C·Cells .cell (now (self .entry) .cells)) (C·Cells .cell (now (self .exit) .cells)) r ⌝ }
+        ensures changes { λ r. ⌜ Changes (putRefusal (modelOf (outline (now (self .entry) .frame)) (C·Cells .cell (now (self .entry) .cells))) (C·Cells .refuses (now (self .entry) .cells)) row column value) (withValue row column value) (C·Cells .cell (now (self .entry) .cells)) (C·Cells .cell (now (self .exit) .cells)) r ⌝ }
         ensures steady { λ r. ⌜ WhenRefused (C·Cells .refuses (now (self .exit) .cells) ≡ C·Cells .refuses (now (self .entry) .cells)) r ⌝ }
         ensures frame { λ _. ⌜ now (self .exit) .frame ≡ now (self .entry) .frame ⌝ }
     {
@@ -53,8 +53,7 @@ pub impl<C: Cells> System for Bottom<C> as BottomSystem {
     }
 
     fn cell(&self, row: usize, column: usize) -> Result<Interval, Refusal> {
-        let place = self.frame.place(row, column)?;
-        Ok(self.cells.get(place))
+        Ok(self.cells.get(self.frame.place(row, column)?))
     }
 
     fn held(&self, column: usize) -> Result<Option<i64>, Refusal> {

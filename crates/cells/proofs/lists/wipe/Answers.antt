@@ -1,24 +1,17 @@
 use borrow.Author.Needs.{needs}
 use native.Mathlib.Omega.{arith}
-use mathlib.Core.Path.{ap, sym, _∙_}
-use lib.ListN.{set}
+use mathlib.Core.Path.{_≡_}
+use mathlib.Core.Logic.{⊎-elim}
+use Rattle.std.proofs.shelf.Lists.{getD-past}
+use Rattle.std.proofs.shelf.Tests.{cases-lt}
 use Rattle.interval.specs.Directed.{nought}
-use Rattle.cells.proofs.Filled.{fill-more, filled}
 use Rattle.cells.proofs.lists.wipe.Needs as need
-
-pub loop-i-again : need.loop-i-again
-loop-i-again c =
-    let v = c .args .cells .now in
-    let ok = v .ok .0 in
-    let end = c .len-i-end .ensures in
-    let less = c .loop-i-test .taken in
-    ap (λ xs. set xs (c .loop-i .i) nought) (c .loop-i .inv) ∙ fill-more (v .items) (c .loop-i .i) nought (omega arith)
 
 pub returns : need.returns
 returns c =
-    let v = c .args .cells .now in
-    let ok = v .ok .0 in
+    let v = c .loop-i .cells in
+    let same : v .len ≡ c .args .cells .now .len = search needs in
+    let whole = v .ok .0 in
     let end = c .len-i-end .ensures in
-    let most = c .loop-i .kept .i-end in
-    let least = c .loop-i-test .left in
-    record { cells = c .loop-i .inv ∙ filled (v .items) (c .loop-i .i) (v .len) nought (omega arith) (omega arith); length = search needs }
+    let left = c .loop-i-test .left in
+    record { cells = λ k. ⊎-elim (c .loop-i .inv k) (λ past. getD-past (v .items) k nought (omega arith)) (cases-lt k (c .loop-i .i)); length = same }
