@@ -1,3 +1,4 @@
 pub mod Filled
 pub mod Slotted
+pub mod Counting
 pub mod Standing

@@ -2,7 +2,7 @@
 use Prim.Native.Nat.{ℕ, zero, suc, _+_, _≤_, _<_}
 use native.Mathlib.Omega.{arith}
 use mathlib.Core.Path.{_≡_, refl, ap, _∙_}
-use mathlib.Core.Bool.{true, false, _&&_, _||_}
+use mathlib.Core.Bool.{true, false, cond, _&&_, _||_}
 use mathlib.Core.List.{List, [], _∷_}
 use lib.Dec.{eqb}
 use lib.ListN.{length, getD, set, drop}
@@ -15,9 +15,11 @@ use Rattle.interval.specs.declared.directed.Interval.{Interval}
 use Rattle.interval.specs.Directed.{nought, within, Within}
 use Rattle.cells.specs.declared.parts.slots.Part.{Part}
 use Rattle.cells.specs.declared.parts.PartTable.{PartTable}
+use Rattle.cells.specs.declared.places.Place.{Place}
 use Rattle.cells.specs.Keeping.{reach, withValue}
-use Rattle.cells.specs.Slots.{isNought, empty, partAt, standsAt, cellIn, standing, onePart, allNear, rewritten, Found, Vacant}
-use Rattle.cells.specs.Parts.{tableCell, tableRefusal}
+use Rattle.cells.specs.Slots.{isNought, empty, partAt, standsAt, cellIn, standing, onePart, allNear, allInside, rewritten, Found}
+use Rattle.cells.specs.Parts.{tableCell, partsIn, partsRule, Room}
+use Rattle.cells.proofs.Counting.{count, parts-none, parts-raised}
 
 -- an interval that passes the test is (0, 0)
 nought-is : (x : Interval) → isNought x ≡ true → x ≡ nought
@@ -47,10 +49,32 @@ near-set [] i q e w = refl
 near-set (p ∷ ps) zero q e w = grind (arith, tells)
 near-set (p ∷ ps) (suc i) q e w = grind (arith, tells, near-set ps i q (rest-near p ps e) w)
 
--- ---- a part put at (r, c)
+-- ---- places inside the sheet
+
+inside-parts : (p : Part) (ps : List Part) → allInside (p ∷ ps) ≡ true → (p .row < 64) × (p .column < 64) × (allInside ps ≡ true)
+inside-parts p ps e = grind (arith, tells)
+
+inside-set : (ps : List Part) (i : ℕ) (q : Part) → allInside ps ≡ true → q .row < 64 → q .column < 64 → allInside (set ps i q) ≡ true
+inside-set [] i q e r c = refl
+inside-set (p ∷ ps) zero q e r c = grind (arith, tells)
+inside-set (p ∷ ps) (suc i) q e r c = grind (arith, tells, inside-set ps i q (inside-parts p ps e .2) r c)
+
+-- ---- places with one part
 
 rest-one : (p : Part) (ps : List Part) → onePart (p ∷ ps) ≡ true → onePart ps ≡ true
 rest-one p ps e = and-parts (isNought (p .cell) || isNought (cellIn ps (p .row) (p .column))) (onePart ps) e .1
+
+-- where no place has two parts, as many parts stand in the slots as are read
+pub parts-stand : (ps : List Part) → onePart ps ≡ true → allInside ps ≡ true → partsIn (cellIn ps) ≡ standing ps
+parts-stand [] one inside = parts-none
+parts-stand (p ∷ ps) one inside =
+    let few = inside-parts p ps inside in
+    grind (arith, tells, parts-raised (cellIn ps) (cellIn (p ∷ ps)) (p .row) (p .column) (count (p .cell)) (few .0) (few .1) each, parts-stand ps (rest-one p ps one) (few .2))
+  where
+    each : (i j : ℕ) → count (cellIn (p ∷ ps) i j) ≡ count (cellIn ps i j) + cond (eqb i (p .row) && eqb j (p .column)) (count (p .cell)) 0
+    each i j = grind (arith, tells)
+
+-- ---- a part put at (r, c)
 
 module _ (r c : ℕ) where
   -- where a place holds (0, 0), no part stands there
@@ -93,26 +117,34 @@ module _ (r c : ℕ) where
 
 -- the parts of table t after v was put at (r, c)
 pub record Put (t : PartTable) (r c : ℕ) (v : Interval) (after : List Part) : Type 0 where
-  pub accepted : tableRefusal t r c v ≡ None
+  pub accepted : partsRule (tableCell t) r c v ≡ None
   pub cells-are : cellIn after ≡ withValue r c v (tableCell t)
   pub apart : onePart after ≡ true
   pub near : allNear after ≡ true
+  pub inside : allInside after ≡ true
 
-module _ (t : PartTable) (r c : ℕ) (v : Interval) (i : ℕ) (after : List Part) (w : within reach v ≡ true) where
+module _ (t : PartTable) (place : Place) (v : Interval) (i : ℕ) (after : List Part) (w : within reach v ≡ true) where
   abbrev parts : List Part
   parts = t .slots .parts
 
-  by-slot : Ready r c parts i → tableRefusal t r c v ≡ None → after ≡ set parts i (partAt r c v) → Put t r c v after
+  abbrev r : ℕ
+  r = place .row
+
+  abbrev c : ℕ
+  c = place .column
+
+  by-slot : Ready r c parts i → partsRule (tableCell t) r c v ≡ None → after ≡ set parts i (partAt r c v) → Put t r c v after
   by-slot ready accepted is =
       record {
         accepted = accepted;
         cells-are = ap cellIn is ∙ (λ k a b. put-cell r c v parts i ready a b k);
         apart = ap onePart is ∙ put-one r c v parts i ready (t .apart);
         near = ap allNear is ∙ near-set parts i (partAt r c v) (t .near) w;
+        inside = ap allInside is ∙ inside-set parts i (partAt r c v) (t .inside) (place .«few_rows») (place .«few_columns»);
       }
 
   pub by-rewrite : Found parts r c (Some i) → after ≡ rewritten parts i v → Put t r c v after
   by-rewrite found is = by-slot (ready-found r c parts i (t .apart) (found .1)) (grind (arith, tells)) (is ∙ ap (set parts i) (grind (arith, tells)))
 
-  pub by-fill : Found parts r c None → Vacant parts (Some i) → after ≡ set parts i (partAt r c v) → Put t r c v after
-  by-fill none vacant is = by-slot (ready-vacant r c parts i (vacant .1) (vacant .2) none) (grind (arith, tells)) is
+  pub by-fill : Found parts r c None → Room t (Some i) → after ≡ set parts i (partAt r c v) → Put t r c v after
+  by-fill none room is = by-slot (ready-vacant r c parts i (room .1) (room .2) none) (grind (arith, tells)) is

@@ -30,12 +30,9 @@ bandSlot last r c = r * 18 + cond (eqb c last) 17 (c + 8 - r)
 abbrev pub bandCell : Band → ℕ → ℕ → Interval
 bandCell b r c = cond (keeps b r c) (getD (vec-items (b .list .cells)) (bandSlot (b .last) r c) nought) nought
 
--- what a band of this width and last column refuses
-abbrev pub bandRule : (width last : ℕ) → ℕ → ℕ → Interval → Option ℕ
-bandRule width last r c v = orElse (unless (within reach v) 3) (unless (inBand width last r c) 5)
-
-abbrev pub bandRefusal : Band → ℕ → ℕ → Interval → Option ℕ
-bandRefusal b = bandRule (b .width) (b .last)
+-- a band of this width and last column takes a value within the reach, where it keeps the place
+abbrev pub bandRule : (width last : ℕ) → (ℕ → ℕ → Interval) → ℕ → ℕ → Interval → Option ℕ
+bandRule width last cell r c v = orElse (unless (within reach v) 3) (unless (inBand width last r c) 5)
 
 abbrev pub widthRefusal : ℕ → Option ℕ
 widthRefusal width = unless (leb width 8) 3
@@ -49,4 +46,4 @@ pub record Shaped (width last : ℕ) (b : Band) : Type 0 where
 -- what shaping a band does
 abbrev pub Shapes : (width last : ℕ) → (before after : Band) → Result (Unit {0}) Refusal → Type 0
 Shapes width last before after (Ok _) = (widthRefusal width ≡ None) × Shaped width last after
-Shapes width last before after (Err e) = (widthRefusal width ≡ Some (numberOf e)) × (bandCell after ≡ bandCell before) × (bandRefusal after ≡ bandRefusal before)
+Shapes width last before after (Err e) = (widthRefusal width ≡ Some (numberOf e)) × (bandCell after ≡ bandCell before) × (after .width ≡ before .width) × (after .last ≡ before .last)

@@ -18,5 +18,6 @@ gridSlot r c = r * 64 + c
 abbrev pub gridCell : Grid → ℕ → ℕ → Interval
 gridCell g r c = cond (ltb c 64) (getD (vec-items (g .list .cells)) (gridSlot r c) nought) nought
 
-abbrev pub gridRefusal : ℕ → ℕ → Interval → Option ℕ
-gridRefusal r c v = unless (within reach v) 3
+-- every place takes a value within the reach
+abbrev pub gridRule : (ℕ → ℕ → Interval) → ℕ → ℕ → Interval → Option ℕ
+gridRule cell r c v = unless (within reach v) 3

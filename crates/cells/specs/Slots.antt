@@ -3,7 +3,7 @@ use Prim.Native.Nat.{ℕ, suc, _<_}
 use mathlib.Core.Path.{_≡_}
 use mathlib.Core.Bool.{Bool, true, not, cond, _&&_, _||_}
 use mathlib.Core.List.{List, [], _∷_}
-use lib.Dec.{eqb}
+use lib.Dec.{eqb, ltb}
 use lib.IntN.{natAbs}
 use lib.ListN.{length, getD, set}
 use Rattle.std.specs.declared.option.Option.{Option}
@@ -45,6 +45,11 @@ onePart (p ∷ ps) = (isNought (p .cell) || isNought (cellIn ps (p .row) (p .col
 abbrev pub allNear : List Part → Bool
 allNear [] = true
 allNear (p ∷ ps) = within reach (p .cell) && allNear ps
+
+-- every place is one of 64 rows and 64 columns
+abbrev pub allInside : List Part → Bool
+allInside [] = true
+allInside (p ∷ ps) = (ltb (p .row) 64 && ltb (p .column) 64) && allInside ps
 
 -- the interval of one part changed
 abbrev pub rewritten : List Part → ℕ → Interval → List Part

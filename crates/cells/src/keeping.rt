@@ -5,7 +5,7 @@ ghost use Rattle.std.specs.declared.option.Option.{Option};
 ghost use Rattle.interval.specs.declared.directed.Interval.{Interval as Kept};
 ghost use Rattle.interval.specs.Directed.{Within};
 ghost use Rattle.interval.specs.Refusals.{Changes};
-ghost use Rattle.cells.specs.Keeping.{reach, withValue, WhenRefused};
+ghost use Rattle.cells.specs.Keeping.{reach, withValue};
 use crate::places::Place;
 use interval::Interval;
 use interval::Refusal;
@@ -13,11 +13,11 @@ use interval::Refusal;
 // The reach of everything that keeps cells.
 pub const REACH: u64 = 100_000;
 
-// `cell` is what each place holds, and `refuses` the number with which each put would be refused now.
+// `cell` is what each place holds, and `rule` the number with which a put is refused, by what the places hold.
 pub trait Cells {
     ghost cell: { Self → ℕ → ℕ → Kept };
 
-    ghost refuses: { Self → ℕ → ℕ → Kept → Option ℕ };
+    ghost rule: { Self → (ℕ → ℕ → Kept) → ℕ → ℕ → Kept → Option ℕ };
 
     law near: { (s : Self) (r c : ℕ) → Within reach (cell s r c) };
 
@@ -25,6 +25,6 @@ pub trait Cells {
         ensures { λ r. ⌜ r ≡ cell (now (self .entry)) (place .row) (place .column) ⌝ };
 
     fn put(&mut self, place: Place, value: Interval) -> Result<(), Refusal>
-        ensures changes { λ r. ⌜ Changes (refuses (now (self .entry)) (place .row) (place .column) value) (withValue (place .row) (place .column) value) (cell (now (self .entry))) (cell (now (self .exit))) r ⌝ }
-        ensures steady { λ r. ⌜ WhenRefused (refuses (now (self .exit)) ≡ refuses (now (self .entry))) r ⌝ };
+        ensures changes { λ r. ⌜ Changes (rule (now (self .entry)) (cell (now (self .entry))) (place .row) (place .column) value) (withValue (place .row) (place .column) value) (cell (now (self .entry))) (cell (now (self .exit))) r ⌝ }
+        ensures steady { λ _. ⌜ rule (now (self .exit)) ≡ rule (now (self .entry)) ⌝ };
 }

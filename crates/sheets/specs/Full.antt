@@ -1,14 +1,8 @@
 -- The full sheet: it takes every cell.
-use Prim.Native.Nat.{ℕ}
 use Rattle.cells.specs.declared.grid.Grid.{Grid}
-use Rattle.cells.specs.Grid.{gridCell, gridRefusal}
-use Rattle.system.specs.Writing.{State}
+use Rattle.cells.specs.Grid.{gridCell, gridRule}
 use Rattle.sheets.specs.declared.bottom.Bottom.{Bottom}
-use Rattle.sheets.specs.Frame.{outline}
-use Rattle.sheets.specs.Bottom.{modelOf, stateOf, blank}
+use Rattle.sheets.specs.Bottom.{Ruled, bottomOf}
 
-abbrev pub fullState : Bottom Grid → State
-fullState s = stateOf (modelOf (outline (s .frame)) (gridCell (s .cells))) gridRefusal
-
-abbrev pub blankFull : (rows columns : ℕ) → State
-blankFull rows columns = stateOf (blank rows columns) gridRefusal
+abbrev pub full : Bottom Grid → Ruled
+full = bottomOf gridCell (λ _. gridRule)

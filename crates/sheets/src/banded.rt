@@ -2,9 +2,11 @@
 ghost use Rattle.std.specs.Vec.{made};
 ghost use mathlib.Core.Path.{_≡_};
 ghost use Rattle.interval.specs.Refusals.{Changes, orElse};
-ghost use Rattle.cells.specs.Band.{widthRefusal};
+ghost use Prim.Native.Nat.{_-_};
+ghost use Rattle.cells.specs.Band.{bandRule, widthRefusal};
 ghost use Rattle.sheets.specs.Frame.{countsRefusal};
-ghost use Rattle.sheets.specs.Banded.{bandedState, blankBanded};
+ghost use Rattle.sheets.specs.Bottom.{ruled, blank};
+ghost use Rattle.sheets.specs.Banded.{banded as bandedOf};
 use crate::bottom::Bottom;
 use crate::frame::Frame;
 use cells::Band;
@@ -17,7 +19,7 @@ pub type Banded = Bottom<Band>;
 impl Bottom<Band> {
     // The width is 0, until the sheet is sized.
     pub fn new(heap: Global) -> Result<Banded, AllocError>
-        ensures { λ r. ⌜ made r (λ s. bandedState s ≡ blankBanded 1 1 0) ⌝ }
+        ensures { λ r. ⌜ made r (λ s. bandedOf s ≡ ruled (blank 1 1) (bandRule 0 0)) ⌝ }
     {
         let cells = Band::new(heap)?;
         Ok(Bottom {
@@ -28,7 +30,7 @@ impl Bottom<Band> {
 
     // Sets the counts and the width, makes every cell (0, 0), and frees every column.
     pub fn size(&mut self, rows: usize, columns: usize, width: usize) -> Result<(), Refusal>
-        ensures { λ r. ⌜ Changes (orElse (countsRefusal rows columns) (widthRefusal width)) (λ _. blankBanded rows columns width) (bandedState (now (self .entry))) (bandedState (now (self .exit))) r ⌝ }
+        ensures { λ r. ⌜ Changes (orElse (countsRefusal rows columns) (widthRefusal width)) (λ _. ruled (blank rows columns) (bandRule width (columns - 1))) (bandedOf (now (self .entry))) (bandedOf (now (self .exit))) r ⌝ }
     {
         let frame = Frame::sized(rows, columns)?;
         self.cells.shape(width, columns - 1)?;

@@ -1,9 +1,9 @@
 // A bottom: a frame, and what keeps its cells.
 ghost use mathlib.Core.Path.{_≡_};
 ghost use Rattle.interval.specs.Refusals.{Changes};
-ghost use Rattle.cells.specs.Keeping.{withValue, WhenRefused};
-ghost use Rattle.sheets.specs.Frame.{outline};
-ghost use Rattle.sheets.specs.Bottom.{modelOf, stateOf, putRefusal};
+ghost use Rattle.cells.specs.Keeping.{withValue};
+ghost use Rattle.system.specs.Writing.{Puts};
+ghost use Rattle.sheets.specs.Bottom.{bottomOf, putRefusal, stateOf};
 use crate::frame::Frame;
 use cells::Cells;
 use cells::REACH;
@@ -25,8 +25,8 @@ pub struct Bottom<C> {
 impl<C: Cells> Bottom<C> {
     // Puts a value where the place is there, the value is within every limit, and what keeps the cells takes it.
     fn store(&mut self, row: usize, column: usize, value: Interval) -> Result<(), Refusal>
-        ensures changes { λ r. ⌜ Changes (putRefusal (modelOf (outline (now (self .entry) .frame)) (C·Cells .cell (now (self .entry) .cells))) (C·Cells .refuses (now (self .entry) .cells)) row column value) (withValue row column value) (C·Cells .cell (now (self .entry) .cells)) (C·Cells .cell (now (self .exit) .cells)) r ⌝ }
-        ensures steady { λ r. ⌜ WhenRefused (C·Cells .refuses (now (self .exit) .cells) ≡ C·Cells .refuses (now (self .entry) .cells)) r ⌝ }
+        ensures changes { λ r. ⌜ Changes (putRefusal (bottomOf (C·Cells .cell) (C·Cells .rule) (now (self .entry))) row column value) (withValue row column value) (C·Cells .cell (now (self .entry) .cells)) (C·Cells .cell (now (self .exit) .cells)) r ⌝ }
+        ensures steady { λ _. ⌜ C·Cells .rule (now (self .exit) .cells) ≡ C·Cells .rule (now (self .entry) .cells) ⌝ }
         ensures frame { λ _. ⌜ now (self .exit) .frame ≡ now (self .entry) .frame ⌝ }
     {
         let place = self.frame.place(row, column)?;
@@ -38,7 +38,7 @@ impl<C: Cells> Bottom<C> {
 }
 
 pub impl<C: Cells> System for Bottom<C> as BottomSystem {
-    ghost meaning = { λ s. modelOf (outline (s .frame)) (C·Cells .cell (s .cells)) };
+    ghost meaning = { λ s. bottomOf (C·Cells .cell) (C·Cells .rule) s .model };
 
     fn rows(&self) -> usize {
         self.frame.rows()
@@ -62,9 +62,12 @@ pub impl<C: Cells> System for Bottom<C> as BottomSystem {
 }
 
 pub impl<C: Cells> Sheet for Bottom<C> as BottomSheet {
-    ghost refuses = { λ s. stateOf (modelOf (outline (s .frame)) (C·Cells .cell (s .cells))) (C·Cells .refuses (s .cells)) .refuses };
+    ghost refuses = { λ s. stateOf (bottomOf (C·Cells .cell) (C·Cells .rule) s) .refuses };
 
-    fn put(&mut self, row: usize, column: usize, value: Interval) -> Result<(), PutFault> {
+    fn put(&mut self, row: usize, column: usize, value: Interval) -> Result<(), PutFault>
+        ensures { λ r. ⌜ Puts row column value (stateOf (bottomOf (C·Cells .cell) (C·Cells .rule) (now (self .entry)))) (stateOf (bottomOf (C·Cells .cell) (C·Cells .rule) (now (self .exit)))) r ⌝ }
+        ensures rule { λ _. ⌜ bottomOf (C·Cells .cell) (C·Cells .rule) (now (self .exit)) .rule ≡ bottomOf (C·Cells .cell) (C·Cells .rule) (now (self .entry)) .rule ⌝ }
+    {
         match self.store(row, column, value) {
             Ok(()) => Ok(()),
             Err(refusal) => Err(PutFault::at(refusal, row, column)),

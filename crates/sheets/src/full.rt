@@ -3,7 +3,9 @@ ghost use Rattle.std.specs.Vec.{made};
 ghost use mathlib.Core.Path.{_≡_};
 ghost use Rattle.interval.specs.Refusals.{Changes};
 ghost use Rattle.sheets.specs.Frame.{countsRefusal};
-ghost use Rattle.sheets.specs.Full.{fullState, blankFull};
+ghost use Rattle.cells.specs.Grid.{gridRule};
+ghost use Rattle.sheets.specs.Bottom.{ruled, blank};
+ghost use Rattle.sheets.specs.Full.{full as fullOf};
 use crate::bottom::Bottom;
 use crate::frame::Frame;
 use cells::Grid;
@@ -15,7 +17,7 @@ pub type Full = Bottom<Grid>;
 
 impl Bottom<Grid> {
     pub fn new(heap: Global) -> Result<Full, AllocError>
-        ensures { λ r. ⌜ made r (λ s. fullState s ≡ blankFull 1 1) ⌝ }
+        ensures { λ r. ⌜ made r (λ s. fullOf s ≡ ruled (blank 1 1) gridRule) ⌝ }
     {
         let cells = Grid::new(heap)?;
         Ok(Bottom {
@@ -26,7 +28,7 @@ impl Bottom<Grid> {
 
     // Sets the counts, makes every cell (0, 0), and frees every column.
     pub fn size(&mut self, rows: usize, columns: usize) -> Result<(), Refusal>
-        ensures { λ r. ⌜ Changes (countsRefusal rows columns) (λ _. blankFull rows columns) (fullState (now (self .entry))) (fullState (now (self .exit))) r ⌝ }
+        ensures { λ r. ⌜ Changes (countsRefusal rows columns) (λ _. ruled (blank rows columns) gridRule) (fullOf (now (self .entry))) (fullOf (now (self .exit))) r ⌝ }
     {
         self.frame = Frame::sized(rows, columns)?;
         self.cells.clear();

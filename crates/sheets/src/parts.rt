@@ -2,7 +2,9 @@
 ghost use mathlib.Core.Path.{_≡_};
 ghost use Rattle.interval.specs.Refusals.{Changes};
 ghost use Rattle.sheets.specs.Frame.{countsRefusal};
-ghost use Rattle.sheets.specs.Parts.{partsState, blankParts};
+ghost use Rattle.cells.specs.Parts.{partsRule};
+ghost use Rattle.sheets.specs.Bottom.{ruled, blank};
+ghost use Rattle.sheets.specs.Parts.{parts as partsOf};
 use crate::bottom::Bottom;
 use crate::frame::Frame;
 use cells::PartTable;
@@ -12,7 +14,7 @@ pub type Parts = Bottom<PartTable>;
 
 impl Bottom<PartTable> {
     pub fn new() -> Parts
-        ensures { λ r. ⌜ partsState r ≡ blankParts 1 1 ⌝ }
+        ensures { λ r. ⌜ partsOf r ≡ ruled (blank 1 1) partsRule ⌝ }
     {
         Bottom {
             frame: Frame::new(),
@@ -22,7 +24,7 @@ impl Bottom<PartTable> {
 
     // Sets the counts, takes every part off, and frees every column.
     pub fn size(&mut self, rows: usize, columns: usize) -> Result<(), Refusal>
-        ensures { λ r. ⌜ Changes (countsRefusal rows columns) (λ _. blankParts rows columns) (partsState (now (self .entry))) (partsState (now (self .exit))) r ⌝ }
+        ensures { λ r. ⌜ Changes (countsRefusal rows columns) (λ _. ruled (blank rows columns) partsRule) (partsOf (now (self .entry))) (partsOf (now (self .exit))) r ⌝ }
     {
         self.frame = Frame::sized(rows, columns)?;
         self.cells.clear();

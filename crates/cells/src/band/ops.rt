@@ -2,7 +2,7 @@
 ghost use mathlib.Core.Path.{_≡_};
 ghost use mathlib.Core.Bool.{true};
 ghost use Rattle.std.specs.Vec.{made};
-ghost use Rattle.cells.specs.Band.{keeps, bandSlot, bandCell, bandRefusal, Shaped, Shapes};
+ghost use Rattle.cells.specs.Band.{keeps, bandSlot, bandCell, bandRule, Shaped, Shapes};
 use crate::band::Band;
 use crate::keeping::Cells;
 use crate::keeping::REACH;
@@ -71,7 +71,7 @@ impl Band {
 pub impl Cells for Band as BandCells {
     ghost cell = { bandCell };
 
-    ghost refuses = { bandRefusal };
+    ghost rule = { λ b. bandRule (b .width) (b .last) };
 
     fn get(&self, place: Place) -> Interval {
         if self.keeps(&place) {

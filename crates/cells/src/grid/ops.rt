@@ -2,7 +2,7 @@
 ghost use mathlib.Core.Path.{_≡_};
 ghost use Rattle.std.specs.Vec.{made};
 ghost use Rattle.interval.specs.Directed.{nought};
-ghost use Rattle.cells.specs.Grid.{gridSlot, gridCell, gridRefusal};
+ghost use Rattle.cells.specs.Grid.{gridSlot, gridCell, gridRule};
 use crate::grid::Grid;
 use crate::keeping::Cells;
 use crate::keeping::REACH;
@@ -43,7 +43,7 @@ fn slot(place: &Place) -> usize
 pub impl Cells for Grid as GridCells {
     ghost cell = { gridCell };
 
-    ghost refuses = { λ _. gridRefusal };
+    ghost rule = { λ _. gridRule };
 
     fn get(&self, place: Place) -> Interval {
         self.list.get(slot(&place))

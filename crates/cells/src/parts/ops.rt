@@ -1,7 +1,7 @@
 // What a table of parts takes and gives.
 ghost use mathlib.Core.Path.{_≡_};
 ghost use Rattle.interval.specs.Directed.{nought};
-ghost use Rattle.cells.specs.Parts.{tableCell, tableRefusal, Emptied};
+ghost use Rattle.cells.specs.Parts.{tableCell, partsRule, Room};
 use crate::keeping::Cells;
 use crate::keeping::REACH;
 use crate::lists::NOUGHT;
@@ -16,7 +16,7 @@ use interval::Refusal;
 impl PartTable {
     // A table without parts.
     pub fn new() -> PartTable
-        ensures { λ r. ⌜ Emptied r ⌝ }
+        ensures { λ r. ⌜ tableCell r ≡ (λ _ _. nought) ⌝ }
     {
         PartTable {
             slots: Slots::new(),
@@ -25,16 +25,23 @@ impl PartTable {
 
     // Takes every part off.
     pub fn clear(&mut self)
-        ensures { λ _. ⌜ Emptied (now (self .exit)) ⌝ }
+        ensures { λ _. ⌜ tableCell (now (self .exit)) ≡ (λ _ _. nought) ⌝ }
     {
         self.slots = Slots::new();
+    }
+
+    // An empty slot, as long as fewer than 128 parts stand.
+    fn room(&self) -> Option<usize>
+        ensures { λ r. ⌜ Room (now (self .entry)) r ⌝ }
+    {
+        self.slots.vacant()
     }
 }
 
 pub impl Cells for PartTable as PartTableCells {
     ghost cell = { tableCell };
 
-    ghost refuses = { tableRefusal };
+    ghost rule = { λ _. partsRule };
 
     fn get(&self, place: Place) -> Interval {
         match self.slots.find(place.row, place.column) {
@@ -56,7 +63,7 @@ pub impl Cells for PartTable as PartTableCells {
         if is_nought(value) {
             return Ok(());
         }
-        let Some(slot) = self.slots.vacant() else {
+        let Some(slot) = self.room() else {
             return Err(Refusal::PartsFull);
         };
         self.slots.fill(

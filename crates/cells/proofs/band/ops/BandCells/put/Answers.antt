@@ -1,6 +1,6 @@
 use borrow.Author.Needs.{needs}
 use native.Mathlib.Omega.{arith}
-use mathlib.Core.Path.{_≡_}
+use mathlib.Core.Path.{_≡_, refl}
 use mathlib.Core.Bool.{true}
 use lib.ListN.{set}
 use Rattle.cells.specs.Band.{inBand, bandSlot}
@@ -22,5 +22,5 @@ returns c =
         search needs,
         λ i x y. slotted-set (inBand (b .width) (b .last)) (bandSlot (b .last)) (b .list .cells .items) (c .set .last .self .cells .items) r k (c .args .value) written kept (omega arith) (band-alone (b .width) (b .last) (b .narrow) r k kept) x y i,
       );
-      steady = tt;
+      steady = refl;
     }
