@@ -12,7 +12,7 @@ use Rattle.std.proofs.shelf.Tests.{cases-eq, cases-bool, both-ways, eq-eqb, ne-
 use Rattle.std.proofs.shelf.Ways.{tells}
 use Rattle.interval.specs.declared.directed.Interval.{Interval}
 use Rattle.interval.specs.Directed.{nought}
-use Rattle.cells.specs.Keeping.{withValue}
+use Rattle.system.specs.Reading.{withValue}
 use Rattle.cells.specs.Band.{inBand, bandSlot}
 
 elsewhere : (r c i j : ℕ) → (i ≡ r → j ≡ c → ⊥) → (eqb i r && eqb j c) ≡ false

@@ -16,7 +16,8 @@ use Rattle.interval.specs.Directed.{nought, within, Within}
 use Rattle.cells.specs.declared.parts.slots.Part.{Part}
 use Rattle.cells.specs.declared.parts.PartTable.{PartTable}
 use Rattle.cells.specs.declared.places.Place.{Place}
-use Rattle.cells.specs.Keeping.{reach, withValue}
+use Rattle.system.specs.Reading.{withValue}
+use Rattle.cells.specs.Keeping.{reach}
 use Rattle.cells.specs.Slots.{isNought, empty, partAt, standsAt, cellIn, standing, onePart, allNear, allInside, rewritten, Found}
 use Rattle.cells.specs.Parts.{tableCell, partsIn, partsRule, Room}
 use Rattle.cells.proofs.Counting.{count, parts-none, parts-raised}

@@ -1,18 +1,13 @@
 -- What a band keeps, holds and refuses.
 use Prim.Native.Nat.{ℕ, _+_, _-_, _*_}
-use mathlib.Core.Path.{_≡_}
 use mathlib.Core.Bool.{Bool, cond, _&&_, _||_}
 use lib.Dec.{eqb, leb}
 use lib.ListN.{getD}
 use Rattle.std.specs.declared.option.Option.{Option}
-use Rattle.std.specs.declared.option.Option.the-variants.{Some, None}
-use Rattle.std.specs.declared.result.Result.{Result}
-use Rattle.std.specs.declared.result.Result.the-variants.{Ok, Err}
 use Rattle.std.specs.Of.Vec.{vec-items}
 use Rattle.interval.specs.declared.directed.Interval.{Interval}
-use Rattle.interval.specs.declared.refusals.Refusal.{Refusal}
 use Rattle.interval.specs.Directed.{nought, within}
-use Rattle.interval.specs.Refusals.{numberOf, unless, orElse}
+use Rattle.interval.specs.Refusals.{unless, orElse}
 use Rattle.cells.specs.declared.band.Band.{Band}
 use Rattle.cells.specs.Keeping.{reach}
 
@@ -37,13 +32,14 @@ bandRule width last cell r c v = orElse (unless (within reach v) 3) (unless (inB
 abbrev pub widthRefusal : ℕ → Option ℕ
 widthRefusal width = unless (leb width 8) 3
 
--- a band of this width and last column, with nothing in it
-pub record Shaped (width last : ℕ) (b : Band) : Type 0 where
-  pub width-is : b .width ≡ width
-  pub last-is : b .last ≡ last
-  pub cells-are : bandCell b ≡ (λ _ _. nought)
+-- what a band is: its width, the last column, and what each place holds
+pub record Banding : Type 0 where
+  pub width : ℕ
+  pub last : ℕ
+  pub cell : ℕ → ℕ → Interval
 
--- what shaping a band does
-abbrev pub Shapes : (width last : ℕ) → (before after : Band) → Result (Unit {0}) Refusal → Type 0
-Shapes width last before after (Ok _) = (widthRefusal width ≡ None) × Shaped width last after
-Shapes width last before after (Err e) = (widthRefusal width ≡ Some (numberOf e)) × (bandCell after ≡ bandCell before) × (after .width ≡ before .width) × (after .last ≡ before .last)
+abbrev pub banding : Band → Banding
+banding b = record { width = b .width; last = b .last; cell = bandCell b }
+
+abbrev pub blankBand : (width last : ℕ) → Banding
+blankBand width last = record { width = width; last = last; cell = λ _ _. nought }

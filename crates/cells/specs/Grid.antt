@@ -15,6 +15,7 @@ use Rattle.cells.specs.Keeping.{reach}
 abbrev pub gridSlot : (r c : ℕ) → ℕ
 gridSlot r c = r * 64 + c
 
+-- a row of the list has 64 cells, so there are none beyond column 63
 abbrev pub gridCell : Grid → ℕ → ℕ → Interval
 gridCell g r c = cond (ltb c 64) (getD (vec-items (g .list .cells)) (gridSlot r c) nought) nought
 

@@ -1,7 +1,7 @@
 // A bottom: a frame, and what keeps its cells.
 ghost use mathlib.Core.Path.{_≡_};
 ghost use Rattle.interval.specs.Refusals.{Changes};
-ghost use Rattle.cells.specs.Keeping.{withValue};
+ghost use Rattle.system.specs.Reading.{withValue};
 ghost use Rattle.system.specs.Writing.{Puts};
 ghost use Rattle.sheets.specs.Bottom.{bottomOf, putRefusal, stateOf};
 use crate::frame::Frame;

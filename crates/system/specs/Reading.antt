@@ -45,9 +45,13 @@ pub record Bounded (m : Model) : Type 0 where
   pub cells : (r c : ℕ) → r < m .rows → c < m .columns → Within (m .reach) (m .cell r c)
   pub numbers : (c : ℕ) → c < m .columns → HeldWithin (m .held c)
 
+-- the same cells but for one
+abbrev pub withValue : ℕ → ℕ → Interval → (ℕ → ℕ → Interval) → ℕ → ℕ → Interval
+withValue r c v cell i j = cond (eqb i r && eqb j c) v (cell i j)
+
 -- the same system but for one cell, or but for one column's held number
 abbrev pub withCell : ℕ → ℕ → Interval → Model → Model
-withCell r c v m = record { rows = m .rows; columns = m .columns; reach = m .reach; cell = λ i j. cond (eqb i r && eqb j c) v (m .cell i j); held = m .held }
+withCell r c v m = record { rows = m .rows; columns = m .columns; reach = m .reach; cell = withValue r c v (m .cell); held = m .held }
 
 abbrev pub withHeld : ℕ → Option ℤ → Model → Model
 withHeld c k m = record { rows = m .rows; columns = m .columns; reach = m .reach; cell = m .cell; held = λ j. cond (eqb j c) k (m .held j) }

@@ -2,7 +2,8 @@
 ghost use mathlib.Core.Path.{_≡_};
 ghost use mathlib.Core.Bool.{true};
 ghost use Rattle.std.specs.Vec.{made};
-ghost use Rattle.cells.specs.Band.{keeps, bandSlot, bandCell, bandRule, Shaped, Shapes};
+ghost use Rattle.interval.specs.Refusals.{Changes};
+ghost use Rattle.cells.specs.Band.{keeps, bandSlot, bandCell, bandRule, banding, blankBand, widthRefusal};
 use crate::band::Band;
 use crate::keeping::Cells;
 use crate::keeping::REACH;
@@ -25,7 +26,7 @@ const SIZE: usize = 1152;
 impl Band {
     // A band of width 0 on a sheet of one column, its cells (0, 0).
     pub fn new(heap: Global) -> Result<Band, AllocError>
-        ensures { λ r. ⌜ made r (Shaped 0 0) ⌝ }
+        ensures { λ r. ⌜ made r (λ b. banding b ≡ blankBand 0 0) ⌝ }
     {
         let list = CellList::new(heap, SIZE)?;
         Ok(Band {
@@ -37,7 +38,7 @@ impl Band {
 
     // Sets the width and the last column, and makes every cell (0, 0).
     pub fn shape(&mut self, width: usize, last: usize) -> Result<(), Refusal>
-        ensures { λ r. ⌜ Shapes width last (now (self .entry)) (now (self .exit)) r ⌝ }
+        ensures { λ r. ⌜ Changes (widthRefusal width) (λ _. blankBand width last) (banding (now (self .entry))) (banding (now (self .exit))) r ⌝ }
     {
         if width > MAX_WIDTH {
             return Err(Refusal::OutsideLimit);
