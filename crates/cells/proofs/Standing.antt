@@ -17,7 +17,7 @@ use Rattle.cells.specs.declared.parts.slots.Part.{Part}
 use Rattle.cells.specs.declared.parts.PartTable.{PartTable}
 use Rattle.cells.specs.declared.places.Place.{Place}
 use Rattle.system.specs.Reading.{withValue}
-use Rattle.cells.specs.Keeping.{reach}
+use Rattle.cells.specs.Keeping.{bottomReach}
 use Rattle.cells.specs.Slots.{isNought, empty, partAt, standsAt, cellIn, standing, onePart, allNear, allInside, rewritten, Found}
 use Rattle.cells.specs.Parts.{tableCell, partsIn, partsRule, Room}
 use Rattle.cells.proofs.Counting.{count, parts-none, parts-raised}
@@ -39,13 +39,13 @@ standing-most (p ∷ ps) = grind (arith, tells, standing-most ps)
 -- ---- parts within the reach
 
 rest-near : (p : Part) (ps : List Part) → allNear (p ∷ ps) ≡ true → allNear ps ≡ true
-rest-near p ps e = and-parts (within reach (p .cell)) (allNear ps) e .1
+rest-near p ps e = and-parts (within bottomReach (p .cell)) (allNear ps) e .1
 
-pub near-cell : (ps : List Part) (r c : ℕ) → allNear ps ≡ true → Within reach (cellIn ps r c)
+pub near-cell : (ps : List Part) (r c : ℕ) → allNear ps ≡ true → Within bottomReach (cellIn ps r c)
 near-cell [] r c e = omega arith
 near-cell (p ∷ ps) r c e = grind (arith, tells, near-cell ps r c (rest-near p ps e))
 
-near-set : (ps : List Part) (i : ℕ) (q : Part) → allNear ps ≡ true → within reach (q .cell) ≡ true → allNear (set ps i q) ≡ true
+near-set : (ps : List Part) (i : ℕ) (q : Part) → allNear ps ≡ true → within bottomReach (q .cell) ≡ true → allNear (set ps i q) ≡ true
 near-set [] i q e w = refl
 near-set (p ∷ ps) zero q e w = grind (arith, tells)
 near-set (p ∷ ps) (suc i) q e w = grind (arith, tells, near-set ps i q (rest-near p ps e) w)
@@ -124,7 +124,7 @@ pub record Put (t : PartTable) (r c : ℕ) (v : Interval) (after : List Part) : 
   pub near : allNear after ≡ true
   pub inside : allInside after ≡ true
 
-module _ (t : PartTable) (place : Place) (v : Interval) (i : ℕ) (after : List Part) (w : within reach v ≡ true) where
+module _ (t : PartTable) (place : Place) (v : Interval) (i : ℕ) (after : List Part) (w : within bottomReach v ≡ true) where
   abbrev parts : List Part
   parts = t .slots .parts
 

@@ -9,7 +9,7 @@ use Rattle.interval.specs.declared.directed.Interval.{Interval}
 use Rattle.interval.specs.Directed.{nought, within}
 use Rattle.interval.specs.Refusals.{unless, orElse}
 use Rattle.cells.specs.declared.band.Band.{Band}
-use Rattle.cells.specs.Keeping.{reach}
+use Rattle.cells.specs.Keeping.{bottomReach, Rule}
 
 -- column minus row is from −width to width, or the column is the last
 abbrev pub inBand : (width last r c : ℕ) → Bool
@@ -26,8 +26,8 @@ abbrev pub bandCell : Band → ℕ → ℕ → Interval
 bandCell b r c = cond (keeps b r c) (getD (vec-items (b .list .cells)) (bandSlot (b .last) r c) nought) nought
 
 -- a band of this width and last column takes a value within the reach, where it keeps the place
-abbrev pub bandRule : (width last : ℕ) → (ℕ → ℕ → Interval) → ℕ → ℕ → Interval → Option ℕ
-bandRule width last cell r c v = orElse (unless (within reach v) 3) (unless (inBand width last r c) 5)
+abbrev pub bandRule : (width last : ℕ) → Rule
+bandRule width last cell r c v = orElse (unless (within bottomReach v) 3) (unless (inBand width last r c) 5)
 
 abbrev pub widthRefusal : ℕ → Option ℕ
 widthRefusal width = unless (leb width 8) 3

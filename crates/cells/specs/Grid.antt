@@ -3,13 +3,12 @@ use Prim.Native.Nat.{ℕ, _+_, _*_}
 use mathlib.Core.Bool.{cond}
 use lib.Dec.{ltb}
 use lib.ListN.{getD}
-use Rattle.std.specs.declared.option.Option.{Option}
 use Rattle.std.specs.Of.Vec.{vec-items}
 use Rattle.interval.specs.declared.directed.Interval.{Interval}
 use Rattle.interval.specs.Directed.{nought, within}
 use Rattle.interval.specs.Refusals.{unless}
 use Rattle.cells.specs.declared.grid.Grid.{Grid}
-use Rattle.cells.specs.Keeping.{reach}
+use Rattle.cells.specs.Keeping.{bottomReach, Rule}
 
 -- where a cell stands in the list
 abbrev pub gridSlot : (r c : ℕ) → ℕ
@@ -20,5 +19,5 @@ abbrev pub gridCell : Grid → ℕ → ℕ → Interval
 gridCell g r c = cond (ltb c 64) (getD (vec-items (g .list .cells)) (gridSlot r c) nought) nought
 
 -- every place takes a value within the reach
-abbrev pub gridRule : (ℕ → ℕ → Interval) → ℕ → ℕ → Interval → Option ℕ
-gridRule cell r c v = unless (within reach v) 3
+abbrev pub gridRule : Rule
+gridRule cell r c v = unless (within bottomReach v) 3

@@ -10,7 +10,7 @@ use Rattle.interval.specs.declared.directed.Interval.{Interval}
 use Rattle.interval.specs.Directed.{within}
 use Rattle.interval.specs.Refusals.{unless, orElse}
 use Rattle.cells.specs.declared.parts.PartTable.{PartTable}
-use Rattle.cells.specs.Keeping.{reach}
+use Rattle.cells.specs.Keeping.{bottomReach, Rule}
 use Rattle.cells.specs.Slots.{isNought, empty, cellIn}
 
 abbrev pub tableCell : PartTable → ℕ → ℕ → Interval
@@ -21,13 +21,13 @@ unfoldable pub total : (n : ℕ) → (ℕ → ℕ) → ℕ
 total zero f = 0
 total (suc n) f = total n f + f n
 
--- how many parts stand: the cells of 64 rows and 64 columns that are not (0, 0)
+-- how many parts stand: the cells of 64 rows and 64 columns that are not (0, 0); beyond its counts a sheet has none
 unfoldable pub partsIn : (ℕ → ℕ → Interval) → ℕ
 partsIn cell = total 64 (λ r. total 64 (λ c. cond (isNought (cell r c)) 0 1))
 
 -- what is taken where these cells stand: (0, 0), any value where a part stands, and any while fewer than 128 parts stand
-abbrev pub partsRule : (ℕ → ℕ → Interval) → ℕ → ℕ → Interval → Option ℕ
-partsRule cell r c v = orElse (unless (within reach v) 3) (unless (isNought v || (not (isNought (cell r c)) || ltb (partsIn cell) 128)) 6)
+abbrev pub partsRule : Rule
+partsRule cell r c v = orElse (unless (within bottomReach v) 3) (unless (isNought v || (not (isNought (cell r c)) || ltb (partsIn cell) 128)) 6)
 
 -- an empty slot of a table in which fewer than 128 parts stand, or nothing where 128 stand
 abbrev pub Room : PartTable → Option ℕ → Type 0

@@ -11,7 +11,7 @@ use Rattle.std.specs.declared.option.Option.the-variants.{Some, None}
 use Rattle.interval.specs.declared.directed.Interval.{Interval}
 use Rattle.interval.specs.Directed.{nought, within}
 use Rattle.cells.specs.declared.parts.slots.Part.{Part}
-use Rattle.cells.specs.Keeping.{reach}
+use Rattle.cells.specs.Keeping.{bottomReach}
 
 abbrev pub isNought : Interval → Bool
 isNought x = eqb (natAbs (x .first)) 0 && eqb (natAbs (x .second)) 0
@@ -44,7 +44,7 @@ onePart (p ∷ ps) = (isNought (p .cell) || isNought (cellIn ps (p .row) (p .col
 -- every interval is within the reach
 abbrev pub allNear : List Part → Bool
 allNear [] = true
-allNear (p ∷ ps) = within reach (p .cell) && allNear ps
+allNear (p ∷ ps) = within bottomReach (p .cell) && allNear ps
 
 -- every place is one of 64 rows and 64 columns
 abbrev pub allInside : List Part → Bool

@@ -1,12 +1,11 @@
 // What keeps cells.
 ghost use Prim.Native.Nat.{ℕ};
 ghost use mathlib.Core.Path.{_≡_};
-ghost use Rattle.std.specs.declared.option.Option.{Option};
 ghost use Rattle.interval.specs.declared.directed.Interval.{Interval as Kept};
 ghost use Rattle.interval.specs.Directed.{Within};
 ghost use Rattle.interval.specs.Refusals.{Changes};
 ghost use Rattle.system.specs.Reading.{withValue};
-ghost use Rattle.cells.specs.Keeping.{reach};
+ghost use Rattle.cells.specs.Keeping.{bottomReach, Rule, ReachFirst};
 use crate::places::Place;
 use interval::Interval;
 use interval::Refusal;
@@ -18,9 +17,11 @@ pub const REACH: u64 = 100_000;
 pub trait Cells {
     ghost cell: { Self → ℕ → ℕ → Kept };
 
-    ghost rule: { Self → (ℕ → ℕ → Kept) → ℕ → ℕ → Kept → Option ℕ };
+    ghost rule: { Self → Rule };
 
-    law near: { (s : Self) (r c : ℕ) → Within reach (cell s r c) };
+    law near: { (s : Self) (r c : ℕ) → Within bottomReach (cell s r c) };
+
+    law far: { (s : Self) → ReachFirst (rule s) };
 
     fn get(&self, place: Place) -> Interval
         ensures { λ r. ⌜ r ≡ cell (now (self .entry)) (place .row) (place .column) ⌝ };

@@ -6,7 +6,7 @@ ghost use lib.ListN.{getD, set};
 ghost use Rattle.std.specs.Of.Vec.{vec-items, vec-len};
 ghost use Rattle.std.specs.Vec.{made};
 ghost use Rattle.interval.specs.Directed.{nought, within as withinOf};
-ghost use Rattle.cells.specs.Keeping.{reach};
+ghost use Rattle.cells.specs.Keeping.{bottomReach};
 ghost use Rattle.cells.specs.Lists.{Blank};
 use interval::Interval;
 use std::alloc::AllocError;
@@ -20,7 +20,7 @@ pub(crate) const NOUGHT: Interval = Interval {
 #[derive(Drop)]
 pub struct CellList {
     cells: Vec<Interval>,
-    ghost near: { (k : ℕ) → withinOf reach (getD (vec-items cells) k nought) ≡ true },
+    ghost near: { (k : ℕ) → withinOf bottomReach (getD (vec-items cells) k nought) ≡ true },
 }
 
 impl CellList {
@@ -46,7 +46,7 @@ impl CellList {
     }
 
     pub(crate) fn set(&mut self, slot: usize, value: Interval)
-        requires { ⌜ slot < vec-len (now self .cells) ⌝ ∗ ⌜ withinOf reach value ≡ true ⌝ }
+        requires { ⌜ slot < vec-len (now self .cells) ⌝ ∗ ⌜ withinOf bottomReach value ≡ true ⌝ }
         ensures cells { λ _. ⌜ vec-items (now (self .exit) .cells) ≡ set (vec-items (now (self .entry) .cells)) slot value ⌝ }
         ensures length { λ _. ⌜ vec-len (now (self .exit) .cells) ≡ vec-len (now (self .entry) .cells) ⌝ }
     {

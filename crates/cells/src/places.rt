@@ -1,7 +1,7 @@
 // A place on a sheet: a row and a column, both below 64.
 ghost use Prim.Native.Nat.{_<_};
 
-#[derive(Drop)]
+#[derive(Clone, Copy)]
 pub struct Place {
     pub row: usize,
     pub column: usize,

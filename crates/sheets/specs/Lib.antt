@@ -1,4 +1,3 @@
-pub mod Holding
 pub mod Frame
 pub mod Bottom
 pub mod Full

@@ -2,7 +2,8 @@
 ghost use mathlib.Core.Path.{_≡_};
 ghost use Rattle.interval.specs.Refusals.{Changes};
 ghost use Rattle.system.specs.Reading.{withValue};
-ghost use Rattle.system.specs.Writing.{Puts};
+ghost use Rattle.std.specs.declared.option.Option.the-variants.{Some, None};
+ghost use Rattle.system.specs.Writing.{Puts, holdRefusal, freeRefusal, holding};
 ghost use Rattle.sheets.specs.Bottom.{bottomOf, putRefusal, stateOf};
 use crate::frame::Frame;
 use cells::Cells;
@@ -13,9 +14,6 @@ use system::PutFault;
 use system::Sheet;
 use system::System;
 
-// Every sheet refuses a value beyond this, whatever its own rules.
-const MAX_REACH: u64 = 10_000_000;
-
 #[derive(Drop)]
 pub struct Bottom<C> {
     pub(crate) frame: Frame,
@@ -23,16 +21,14 @@ pub struct Bottom<C> {
 }
 
 impl<C: Cells> Bottom<C> {
-    // Puts a value where the place is there, the value is within every limit, and what keeps the cells takes it.
+    // Puts a value where the place is there and what keeps the cells takes it. What is beyond the limit of every sheet is
+    // beyond the reach of these cells too, and refused by the same number.
     fn store(&mut self, row: usize, column: usize, value: Interval) -> Result<(), Refusal>
         ensures changes { λ r. ⌜ Changes (putRefusal (bottomOf (C·Cells .cell) (C·Cells .rule) (now (self .entry))) row column value) (withValue row column value) (C·Cells .cell (now (self .entry) .cells)) (C·Cells .cell (now (self .exit) .cells)) r ⌝ }
         ensures steady { λ _. ⌜ C·Cells .rule (now (self .exit) .cells) ≡ C·Cells .rule (now (self .entry) .cells) ⌝ }
         ensures frame { λ _. ⌜ now (self .exit) .frame ≡ now (self .entry) .frame ⌝ }
     {
         let place = self.frame.place(row, column)?;
-        if !value.within(MAX_REACH) {
-            return Err(Refusal::OutsideLimit);
-        }
         self.cells.put(place, value)
     }
 }
@@ -65,7 +61,7 @@ pub impl<C: Cells> Sheet for Bottom<C> as BottomSheet {
     ghost refuses = { λ s. stateOf (bottomOf (C·Cells .cell) (C·Cells .rule) s) .refuses };
 
     fn put(&mut self, row: usize, column: usize, value: Interval) -> Result<(), PutFault>
-        ensures { λ r. ⌜ Puts row column value (stateOf (bottomOf (C·Cells .cell) (C·Cells .rule) (now (self .entry)))) (stateOf (bottomOf (C·Cells .cell) (C·Cells .rule) (now (self .exit)))) r ⌝ }
+        ensures puts { λ r. ⌜ Puts row column value (stateOf (bottomOf (C·Cells .cell) (C·Cells .rule) (now (self .entry)))) (stateOf (bottomOf (C·Cells .cell) (C·Cells .rule) (now (self .exit)))) r ⌝ }
         ensures rule { λ _. ⌜ bottomOf (C·Cells .cell) (C·Cells .rule) (now (self .exit)) .rule ≡ bottomOf (C·Cells .cell) (C·Cells .rule) (now (self .entry)) .rule ⌝ }
     {
         match self.store(row, column, value) {
@@ -74,12 +70,18 @@ pub impl<C: Cells> Sheet for Bottom<C> as BottomSheet {
         }
     }
 
-    fn hold(&mut self, column: usize, number: i64) -> Result<(), Refusal> {
+    fn hold(&mut self, column: usize, number: i64) -> Result<(), Refusal>
+        ensures changes { λ r. ⌜ Changes (holdRefusal (bottomOf (C·Cells .cell) (C·Cells .rule) (now (self .entry)) .model) column number) (holding column (Some number)) (stateOf (bottomOf (C·Cells .cell) (C·Cells .rule) (now (self .entry)))) (stateOf (bottomOf (C·Cells .cell) (C·Cells .rule) (now (self .exit)))) r ⌝ }
+        ensures rule { λ _. ⌜ bottomOf (C·Cells .cell) (C·Cells .rule) (now (self .exit)) .rule ≡ bottomOf (C·Cells .cell) (C·Cells .rule) (now (self .entry)) .rule ⌝ }
+    {
         self.frame.hold(column, number)?;
         Ok(())
     }
 
-    fn free(&mut self, column: usize) -> Result<(), Refusal> {
+    fn free(&mut self, column: usize) -> Result<(), Refusal>
+        ensures changes { λ r. ⌜ Changes (freeRefusal (bottomOf (C·Cells .cell) (C·Cells .rule) (now (self .entry)) .model) column) (holding column None) (stateOf (bottomOf (C·Cells .cell) (C·Cells .rule) (now (self .entry)))) (stateOf (bottomOf (C·Cells .cell) (C·Cells .rule) (now (self .exit)))) r ⌝ }
+        ensures rule { λ _. ⌜ bottomOf (C·Cells .cell) (C·Cells .rule) (now (self .exit)) .rule ≡ bottomOf (C·Cells .cell) (C·Cells .rule) (now (self .entry)) .rule ⌝ }
+    {
         self.frame.free(column)?;
         Ok(())
     }

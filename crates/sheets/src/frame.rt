@@ -4,7 +4,7 @@ ghost use mathlib.Core.Path.{_≡_};
 ghost use mathlib.Core.Bool.{true};
 ghost use lib.ListN.{getD};
 ghost use Rattle.std.specs.declared.option.Option.the-variants.{None};
-ghost use Rattle.sheets.specs.Holding.{inHeldLimit};
+ghost use Rattle.system.specs.Reading.{heldWithin};
 
 pub mod ops;
 
@@ -17,5 +17,5 @@ pub struct Frame {
     ghost few_rows: { rows ≤ 64 },
     ghost some_columns: { 1 ≤ columns },
     ghost few_columns: { columns ≤ 64 },
-    ghost numbers: { (k : ℕ) → inHeldLimit (getD held k None) ≡ true },
+    ghost numbers: { (k : ℕ) → heldWithin (getD held k None) ≡ true },
 }

@@ -2,9 +2,9 @@
 ghost use Rattle.std.specs.Vec.{made};
 ghost use mathlib.Core.Path.{_≡_};
 ghost use Rattle.interval.specs.Refusals.{Changes};
-ghost use Rattle.sheets.specs.Frame.{countsRefusal};
+ghost use Rattle.sheets.specs.Frame.{blank, countsRefusal};
 ghost use Rattle.cells.specs.Grid.{gridRule};
-ghost use Rattle.sheets.specs.Bottom.{ruled, blank};
+ghost use Rattle.sheets.specs.Bottom.{ruled};
 ghost use Rattle.sheets.specs.Full.{full as fullOf};
 use crate::bottom::Bottom;
 use crate::frame::Frame;

@@ -1,9 +1,9 @@
 // The parts sheet: it keeps up to 128 cells that are not (0, 0).
 ghost use mathlib.Core.Path.{_≡_};
 ghost use Rattle.interval.specs.Refusals.{Changes};
-ghost use Rattle.sheets.specs.Frame.{countsRefusal};
+ghost use Rattle.sheets.specs.Frame.{blank, countsRefusal};
 ghost use Rattle.cells.specs.Parts.{partsRule};
-ghost use Rattle.sheets.specs.Bottom.{ruled, blank};
+ghost use Rattle.sheets.specs.Bottom.{ruled};
 ghost use Rattle.sheets.specs.Parts.{parts as partsOf};
 use crate::bottom::Bottom;
 use crate::frame::Frame;

@@ -29,11 +29,16 @@ state m refuses = record { model = m; refuses = refuses }
 abbrev pub ChecksFirst : Model → (ℕ → ℕ → Interval → Option PutFault) → Type 0
 ChecksFirst m refuses = (r c : ℕ) (v : Interval) (n : ℕ) → firstRefusal m r c v ≡ Some n → refuses r c v ≡ Some (faultAt n r c)
 
+-- a fault that arises in the topmost layer names the place that was given
+abbrev pub NamesPlace : (ℕ → ℕ → Interval → Option PutFault) → Type 0
+NamesPlace refuses = (r c : ℕ) (v : Interval) (f : PutFault) → refuses r c v ≡ Some f → f .layer ≡ 0 → (f .row ≡ r) × (f .column ≡ c)
+
 -- what a put does: refused as the state before says, it changes nothing; accepted, it changes one cell
 abbrev pub Puts : ℕ → ℕ → Interval → (before after : State) → Result (Unit {0}) PutFault → Type 0
 Puts r c v before after (Ok _) = (before .refuses r c v ≡ None) × (after .model ≡ withCell r c v (before .model))
 Puts r c v before after (Err f) = (before .refuses r c v ≡ Some f) × (after ≡ before)
 
+-- what hold and free check
 abbrev pub holdRefusal : Model → ℕ → ℤ → Option ℕ
 holdRefusal m c k = orElse (unless (hasColumn m c) 2) (unless (inLimit maxHeld k) 3)
 

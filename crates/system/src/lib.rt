@@ -10,5 +10,7 @@ pub use faults::PutFaultDebug;
 pub use faults::PutFaultDisplay;
 pub use faults::PutFaultEq;
 pub use faults::PutFaultPartialEq;
+pub use reading::MAX_COUNT;
+pub use reading::MAX_HELD;
 pub use reading::System;
 pub use writing::Sheet;

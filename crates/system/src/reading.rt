@@ -1,10 +1,14 @@
 // A system to be read.
-ghost use Prim.Native.Nat.{ℕ};
 ghost use mathlib.Core.Path.{_≡_};
 ghost use Rattle.interval.specs.Refusals.{unless, Answers};
 ghost use Rattle.system.specs.Reading.{Model, Bounded, hasPlace, hasColumn};
 use interval::Interval;
 use interval::Refusal;
+
+// The largest count of rows and of columns, and the largest held number in size.
+pub const MAX_COUNT: usize = 64;
+
+pub const MAX_HELD: u64 = 1000;
 
 // Rows and columns are numbered from 0. Code over this trait knows of an implementation what `meaning` says, and no more.
 pub trait System {

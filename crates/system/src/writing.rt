@@ -5,7 +5,7 @@ ghost use Rattle.std.specs.declared.option.Option.the-variants.{Some, None};
 ghost use Rattle.interval.specs.declared.directed.Interval.{Interval as Cell};
 ghost use Rattle.system.specs.declared.faults.PutFault.{PutFault as Fault};
 ghost use Rattle.interval.specs.Refusals.{Changes};
-ghost use Rattle.system.specs.Writing.{ChecksFirst, Puts, holdRefusal, freeRefusal, holding, state};
+ghost use Rattle.system.specs.Writing.{ChecksFirst, NamesPlace, Puts, holdRefusal, freeRefusal, holding, state};
 use crate::faults::PutFault;
 use crate::reading::System;
 use interval::Interval;
@@ -16,6 +16,8 @@ pub trait Sheet: System {
     ghost refuses: { Self → ℕ → ℕ → Cell → Option Fault };
 
     law checks: { (s : Self) → ChecksFirst (Self·System .meaning s) (refuses s) };
+
+    law places: { (s : Self) → NamesPlace (refuses s) };
 
     fn put(&mut self, row: usize, column: usize, value: Interval) -> Result<(), PutFault>
         ensures { λ r. ⌜ Puts row column value (state (Self·System .meaning (now (self .entry))) (refuses (now (self .entry)))) (state (Self·System .meaning (now (self .exit))) (refuses (now (self .exit)))) r ⌝ };

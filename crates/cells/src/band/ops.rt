@@ -49,16 +49,16 @@ impl Band {
         Ok(())
     }
 
-    fn keeps(&self, place: &Place) -> bool
-        ensures { λ r. ⌜ r ≡ keeps (now (self .entry)) (now (place .entry) .row) (now (place .entry) .column) ⌝ }
+    fn keeps(&self, place: Place) -> bool
+        ensures { λ r. ⌜ r ≡ keeps (now (self .entry)) (place .row) (place .column) ⌝ }
     {
         let (row, column) = (place.row, place.column);
         column == self.last || (column <= row + self.width && row <= column + self.width)
     }
 
-    fn slot(&self, place: &Place) -> usize
-        requires { ⌜ keeps (now self) (now place .row) (now place .column) ≡ true ⌝ }
-        ensures { λ r. ⌜ r ≡ bandSlot (now (self .entry) .last) (now (place .entry) .row) (now (place .entry) .column) ⌝ }
+    fn slot(&self, place: Place) -> usize
+        requires { ⌜ keeps (now self) (place .row) (place .column) ≡ true ⌝ }
+        ensures { λ r. ⌜ r ≡ bandSlot (now (self .entry) .last) (place .row) (place .column) ⌝ }
     {
         let offset = if place.column == self.last {
             LAST_SLOT
@@ -75,8 +75,8 @@ pub impl Cells for Band as BandCells {
     ghost rule = { λ b. bandRule (b .width) (b .last) };
 
     fn get(&self, place: Place) -> Interval {
-        if self.keeps(&place) {
-            self.list.get(self.slot(&place))
+        if self.keeps(place) {
+            self.list.get(self.slot(place))
         } else {
             NOUGHT
         }
@@ -86,10 +86,10 @@ pub impl Cells for Band as BandCells {
         if !value.within(REACH) {
             return Err(Refusal::OutsideLimit);
         }
-        if !self.keeps(&place) {
+        if !self.keeps(place) {
             return Err(Refusal::NotKept);
         }
-        let slot = self.slot(&place);
+        let slot = self.slot(place);
         self.list.set(slot, value);
         Ok(())
     }

@@ -34,8 +34,8 @@ impl Grid {
     }
 }
 
-fn slot(place: &Place) -> usize
-    ensures { λ r. ⌜ r ≡ gridSlot (now (place .entry) .row) (now (place .entry) .column) ⌝ }
+fn slot(place: Place) -> usize
+    ensures { λ r. ⌜ r ≡ gridSlot (place .row) (place .column) ⌝ }
 {
     place.row * STRIDE + place.column
 }
@@ -46,14 +46,14 @@ pub impl Cells for Grid as GridCells {
     ghost rule = { λ _. gridRule };
 
     fn get(&self, place: Place) -> Interval {
-        self.list.get(slot(&place))
+        self.list.get(slot(place))
     }
 
     fn put(&mut self, place: Place, value: Interval) -> Result<(), Refusal> {
         if !value.within(REACH) {
             return Err(Refusal::OutsideLimit);
         }
-        self.list.set(slot(&place), value);
+        self.list.set(slot(place), value);
         Ok(())
     }
 }

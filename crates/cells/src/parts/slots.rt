@@ -1,8 +1,8 @@
 // The slots of a table of parts, one after the other. A slot whose interval is (0, 0) is empty.
-ghost use Prim.Native.Nat.{ℕ, _<_};
+ghost use Prim.Native.Nat.{_<_};
 ghost use mathlib.Core.Path.{_≡_};
 ghost use lib.ListN.{set, replicate};
-ghost use Rattle.cells.specs.Slots.{isNought, standsAt, partAt, empty, rewritten, Found, Vacant};
+ghost use Rattle.cells.specs.Slots.{isNought, standsAt, empty, rewritten, Found, Vacant};
 use crate::lists::NOUGHT;
 use interval::Interval;
 
@@ -68,7 +68,7 @@ impl Slots {
         None
     }
 
-    // The first empty slot.
+    // An empty slot.
     pub(crate) fn vacant(&self) -> Option<usize>
         ensures { λ r. ⌜ Vacant (now (self .entry) .parts) r ⌝ }
     {

@@ -4,21 +4,20 @@ ghost use mathlib.Core.Path.{_≡_};
 ghost use mathlib.Core.Bool.{true};
 ghost use Rattle.std.specs.declared.option.Option.the-variants.{Some, None};
 ghost use Rattle.interval.specs.Refusals.{Answers, Changes};
-ghost use Rattle.sheets.specs.Holding.{inHeldLimit};
-ghost use Rattle.sheets.specs.Frame.{outline, allFree, withNumber, columnRefusal, numberRefusal, Sized, Placed};
+ghost use Rattle.system.specs.Reading.{heldWithin, withHeld};
+ghost use Rattle.system.specs.Writing.{holdRefusal, freeRefusal};
+ghost use Rattle.sheets.specs.Frame.{frameModel, blank, Sized, Placed};
 use crate::frame::Frame;
 use cells::Place;
 use interval::Refusal;
 use interval::in_limit;
-
-const MAX_COUNT: usize = 64;
-
-const MAX_HELD: u64 = 1000;
+use system::MAX_COUNT;
+use system::MAX_HELD;
 
 impl Frame {
     // One row and one column, which is free.
     pub(crate) fn new() -> Frame
-        ensures { λ r. ⌜ outline r ≡ allFree 1 1 ⌝ }
+        ensures { λ r. ⌜ frameModel r ≡ blank 1 1 ⌝ }
     {
         Frame::all_free(1, 1)
     }
@@ -34,19 +33,19 @@ impl Frame {
     }
 
     pub(crate) fn rows(&self) -> usize
-        ensures { λ r. ⌜ r ≡ outline (now (self .entry)) .rows ⌝ }
+        ensures { λ r. ⌜ r ≡ frameModel (now (self .entry)) .rows ⌝ }
     {
         self.rows
     }
 
     pub(crate) fn columns(&self) -> usize
-        ensures { λ r. ⌜ r ≡ outline (now (self .entry)) .columns ⌝ }
+        ensures { λ r. ⌜ r ≡ frameModel (now (self .entry)) .columns ⌝ }
     {
         self.columns
     }
 
     pub(crate) fn place(&self, row: usize, column: usize) -> Result<Place, Refusal>
-        ensures { λ r. ⌜ Placed (outline (now (self .entry))) row column r ⌝ }
+        ensures { λ r. ⌜ Placed (frameModel (now (self .entry))) row column r ⌝ }
     {
         if row >= self.rows || column >= self.columns {
             return Err(Refusal::NoSuchPlace);
@@ -55,7 +54,7 @@ impl Frame {
     }
 
     pub(crate) fn held(&self, column: usize) -> Result<Option<i64>, Refusal>
-        ensures { λ r. ⌜ Answers (columnRefusal (outline (now (self .entry))) column) (outline (now (self .entry)) .held column) r ⌝ }
+        ensures { λ r. ⌜ Answers (freeRefusal (frameModel (now (self .entry))) column) (frameModel (now (self .entry)) .held column) r ⌝ }
     {
         if column >= self.columns {
             return Err(Refusal::NoSuchPlace);
@@ -64,7 +63,7 @@ impl Frame {
     }
 
     pub(crate) fn hold(&mut self, column: usize, number: i64) -> Result<(), Refusal>
-        ensures { λ r. ⌜ Changes (numberRefusal (outline (now (self .entry))) column number) (withNumber column (Some number)) (outline (now (self .entry))) (outline (now (self .exit))) r ⌝ }
+        ensures { λ r. ⌜ Changes (holdRefusal (frameModel (now (self .entry))) column number) (withHeld column (Some number)) (frameModel (now (self .entry))) (frameModel (now (self .exit))) r ⌝ }
     {
         if column >= self.columns {
             return Err(Refusal::NoSuchPlace);
@@ -77,7 +76,7 @@ impl Frame {
     }
 
     pub(crate) fn free(&mut self, column: usize) -> Result<(), Refusal>
-        ensures { λ r. ⌜ Changes (columnRefusal (outline (now (self .entry))) column) (withNumber column None) (outline (now (self .entry))) (outline (now (self .exit))) r ⌝ }
+        ensures { λ r. ⌜ Changes (freeRefusal (frameModel (now (self .entry))) column) (withHeld column None) (frameModel (now (self .entry))) (frameModel (now (self .exit))) r ⌝ }
     {
         if column >= self.columns {
             return Err(Refusal::NoSuchPlace);
@@ -88,7 +87,7 @@ impl Frame {
 
     fn all_free(rows: usize, columns: usize) -> Frame
         requires { ⌜ 1 ≤ rows ⌝ ∗ ⌜ rows ≤ 64 ⌝ ∗ ⌜ 1 ≤ columns ⌝ ∗ ⌜ columns ≤ 64 ⌝ }
-        ensures { λ r. ⌜ outline r ≡ allFree rows columns ⌝ }
+        ensures { λ r. ⌜ frameModel r ≡ blank rows columns ⌝ }
     {
         Frame {
             rows,
@@ -98,8 +97,8 @@ impl Frame {
     }
 
     fn write(&mut self, column: usize, number: Option<i64>)
-        requires { ⌜ column < 64 ⌝ ∗ ⌜ inHeldLimit number ≡ true ⌝ }
-        ensures { λ _. ⌜ outline (now (self .exit)) ≡ withNumber column number (outline (now (self .entry))) ⌝ }
+        requires { ⌜ column < 64 ⌝ ∗ ⌜ heldWithin number ≡ true ⌝ }
+        ensures { λ _. ⌜ frameModel (now (self .exit)) ≡ withHeld column number (frameModel (now (self .entry))) ⌝ }
     {
         self.held[column] = number;
     }

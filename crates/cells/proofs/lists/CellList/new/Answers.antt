@@ -2,12 +2,12 @@ use borrow.Author.Needs.{needs}
 use mathlib.Core.Path.{_≡_, refl, ap, _∙_}
 use lib.ListN.{getD, replicate}
 use Rattle.interval.specs.Directed.{nought, within}
-use Rattle.cells.specs.Keeping.{reach}
+use Rattle.cells.specs.Keeping.{bottomReach}
 use Rattle.cells.proofs.Filled.{getD-same, each-same}
 use Rattle.cells.proofs.lists.CellList.new.Needs as need
 
 pub ghost-result : need.ghost-result
-ghost-result c = (each-same (within reach) (c .in-Continue-cells .cells .items) (c .args .count) nought (c .in-Continue-cells .ensures tt .exact (λ y h. h)) refl, tt)
+ghost-result c = (each-same (within bottomReach) (c .in-Continue-cells .cells .items) (c .args .count) nought (c .in-Continue-cells .ensures tt .exact (λ y h. h)) refl, tt)
 
 pub returns : need.returns
 returns c =
