@@ -4,6 +4,7 @@ use mathlib.Core.Path.{_≡_}
 use mathlib.Core.Bool.{Bool, cond}
 use mathlib.Core.List.{List}
 use lib.Chars.{codes}
+use lib.Dec.{eqb}
 use Rattle.std.specs.declared.option.Option.{Option}
 use Rattle.std.specs.declared.option.Option.the-variants.{Some, None}
 use Rattle.std.specs.declared.result.Result.{Result}
@@ -16,6 +17,9 @@ numberOf NoSuchPlace = 2
 numberOf OutsideLimit = 3
 numberOf NotKept = 5
 numberOf PartsFull = 6
+
+abbrev pub refusalOf : ℕ → Option Refusal
+refusalOf n = cond (eqb n 2) (Some NoSuchPlace) (cond (eqb n 3) (Some OutsideLimit) (cond (eqb n 5) (Some NotKept) (cond (eqb n 6) (Some PartsFull) None)))
 
 -- the refusal whose number is n, or nothing where none has it
 abbrev pub Numbered : ℕ → Option Refusal → Type 0

@@ -1,6 +1,6 @@
 // Why a call is refused. Each refusal has a number, and a refused call changes nothing.
 ghost use mathlib.Core.Path.{_≡_};
-ghost use Rattle.interval.specs.Refusals.{numberOf, Numbered, textOf};
+ghost use Rattle.interval.specs.Refusals.{numberOf, refusalOf, Numbered, textOf};
 ghost use Rattle.std.specs.declared.option.Option.the-variants.{Some};
 use std::fmt;
 
@@ -22,7 +22,8 @@ impl Refusal {
 
     // The refusal that has this number.
     pub fn numbered(n: u8) -> Option<Refusal>
-        ensures { λ r. ⌜ Numbered n r ⌝ }
+        ensures value { λ r. ⌜ r ≡ refusalOf n ⌝ }
+        ensures tells { λ r. ⌜ Numbered n r ⌝ }
     {
         match n {
             2 => Some(Refusal::NoSuchPlace),

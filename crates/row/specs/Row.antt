@@ -2,10 +2,12 @@
 use Prim.Native.Nat.{ℕ}
 use mathlib.Core.Path.{_≡_}
 use mathlib.Core.Bool.{_&&_}
-use mathlib.Core.List.{List, [], _∷_}
+use mathlib.Core.List.{List, [], _∷_, _++_}
+use lib.Chars.{codes}
 use lib.IntN.{pos}
 use lib.Signed.{_≤ℤ_, _<ℤ_}
 use Rattle.std.specs.Of.Vec.{vec-items}
+use Rattle.std.specs.Written.{signed}
 use Rattle.std.specs.declared.option.Option.{Option}
 use Rattle.std.specs.declared.option.Option.the-variants.{Some, None}
 use Rattle.interval.specs.declared.directed.Interval.{Interval}
@@ -59,3 +61,9 @@ abbrev pub Judges : Verdict → Interval → Type 0
 Judges Balanced s = (pos 0 ≤ℤ s .first) × (s .second ≤ℤ pos 0)
 Judges (Low n) s = (n ≡ s .first) × (s .first <ℤ pos 0)
 Judges (High n) s = (n ≡ s .second) × (pos 0 <ℤ s .second) × (pos 0 ≤ℤ s .first)
+
+-- what is printed of each verdict
+abbrev pub verdictText : Verdict → List ℕ
+verdictText Balanced = codes "balanced: whatever the spreads bring, some trim brings the row to 0"
+verdictText (Low n) = codes "not balanced, LOW: where the spreads fall worst, the row stays at " ++ (signed n ++ codes " or below, whatever the trim")
+verdictText (High n) = codes "not balanced, HIGH: where the spreads fall worst, the row stays at " ++ (signed n ++ codes " or above, whatever the trim")

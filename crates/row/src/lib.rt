@@ -1,8 +1,9 @@
 // One row at fixed factors: each cell times its factor, added up, and what the sum says.
 ghost use Rattle.interval.specs.Refusals.{Answers};
 ghost use Rattle.std.specs.Vec.{made};
+ghost use Rattle.std.specs.declared.option.Option.the-variants.{Some};
 ghost use Rattle.interval.specs.Arithmetic.{multiple as multipleOf};
-ghost use Rattle.row.specs.Row.{multipleRefusal, stepOf, refusalOf, Walked, Judges};
+ghost use Rattle.row.specs.Row.{multipleRefusal, stepOf, refusalOf, Walked, Judges, verdictText};
 use interval::Interval;
 use interval::IntervalFromEnds;
 use interval::Refusal;
@@ -102,6 +103,8 @@ impl Verdict {
 }
 
 pub impl fmt::Display for Verdict as VerdictDisplay {
+    ghost shown = { λ v. Some (verdictText v) };
+
     fn fmt<W: fmt::Write>(&self, f: &mut fmt::Formatter<W>) -> fmt::Result {
         match self {
             Verdict::Balanced => write!(

@@ -1,7 +1,8 @@
 // Why a put is refused, and where.
 ghost use mathlib.Core.Path.{_≡_};
+ghost use Rattle.std.specs.declared.option.Option.the-variants.{Some};
 ghost use Rattle.interval.specs.Refusals.{numberOf};
-ghost use Rattle.system.specs.Faults.{faultAt};
+ghost use Rattle.system.specs.Faults.{faultAt, faultText};
 use interval::Refusal;
 use interval::RefusalDisplay;
 use std::fmt;
@@ -30,6 +31,8 @@ impl PutFault {
 }
 
 pub impl fmt::Display for PutFault as PutFaultDisplay {
+    ghost shown = { λ f. Some (faultText f) };
+
     fn fmt<W: fmt::Write>(&self, f: &mut fmt::Formatter<W>) -> fmt::Result {
         let (layer, row, column) = (self.layer, self.row, self.column);
         match Refusal::numbered(self.number) {

@@ -56,18 +56,14 @@ impl Frame {
     pub(crate) fn held(&self, column: usize) -> Result<Option<i64>, Refusal>
         ensures { λ r. ⌜ Answers (freeRefusal (frameModel (now (self .entry))) column) (frameModel (now (self .entry)) .held column) r ⌝ }
     {
-        if column >= self.columns {
-            return Err(Refusal::NoSuchPlace);
-        }
+        self.check_column(column)?;
         Ok(self.held[column])
     }
 
     pub(crate) fn hold(&mut self, column: usize, number: i64) -> Result<(), Refusal>
         ensures { λ r. ⌜ Changes (holdRefusal (frameModel (now (self .entry))) column number) (withHeld column (Some number)) (frameModel (now (self .entry))) (frameModel (now (self .exit))) r ⌝ }
     {
-        if column >= self.columns {
-            return Err(Refusal::NoSuchPlace);
-        }
+        self.check_column(column)?;
         if !in_limit(number, MAX_HELD) {
             return Err(Refusal::OutsideLimit);
         }
@@ -78,10 +74,17 @@ impl Frame {
     pub(crate) fn free(&mut self, column: usize) -> Result<(), Refusal>
         ensures { λ r. ⌜ Changes (freeRefusal (frameModel (now (self .entry))) column) (withHeld column None) (frameModel (now (self .entry))) (frameModel (now (self .exit))) r ⌝ }
     {
+        self.check_column(column)?;
+        self.write(column, None);
+        Ok(())
+    }
+
+    fn check_column(&self, column: usize) -> Result<(), Refusal>
+        ensures { λ r. ⌜ Answers (freeRefusal (frameModel (now (self .entry))) column) tt r ⌝ }
+    {
         if column >= self.columns {
             return Err(Refusal::NoSuchPlace);
         }
-        self.write(column, None);
         Ok(())
     }
 
