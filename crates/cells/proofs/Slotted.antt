@@ -4,15 +4,16 @@ use native.Mathlib.Omega.{arith}
 use mathlib.Core.Path.{_≡_, ap, ap₂, sym, _∙_}
 use mathlib.Core.Bool.{Bool, true, false, cond, _&&_}
 use mathlib.Core.List.{List}
-use mathlib.Core.Logic.{_⊎_, inl, inr, ⊎-elim}
-use lib.Dec.{eqb}
+use mathlib.Core.Logic.{_⊎_, ⊎-elim}
+use lib.Dec.{eqb, ltb}
 use lib.ListN.{length, getD, set}
 use Rattle.std.proofs.shelf.Lists.{getD-set-same, getD-set-other}
-use Rattle.std.proofs.shelf.Tests.{cases-eq, cases-bool, both-ways, eq-eqb, ne-eqb, and-from, and-left, and-right, cond-true, cond-false}
+use Rattle.std.proofs.shelf.Tests.{cases-eq, cases-bool, both-ways, eq-eqb, ne-eqb, and-from, and-left, and-right, cond-true, cond-false, ltb-true}
 use Rattle.std.proofs.shelf.Ways.{tells}
 use Rattle.interval.specs.declared.directed.Interval.{Interval}
 use Rattle.interval.specs.Directed.{nought}
 use Rattle.system.specs.Reading.{withValue}
+use Rattle.cells.specs.Grid.{gridSlot}
 use Rattle.cells.specs.Band.{inBand, bandSlot}
 
 elsewhere : (r c i j : ℕ) → (i ≡ r → j ≡ c → ⊥) → (eqb i r && eqb j c) ≡ false
@@ -51,6 +52,10 @@ module _ (keep : ℕ → ℕ → Bool) (slot : ℕ → ℕ → ℕ) where
           unchanged
           (cond-false (keep i j) (getD written (slot i j) nought) nought k ∙ sym (cond-false (keep i j) (getD xs (slot i j) nought) nought k))
           (λ p q. both-ways (keep i j) k (ap₂ keep p q ∙ kept))
+
+-- no two columns below 64 share a slot of the grid
+pub grid-alone : (r c : ℕ) → c < 64 → (i j : ℕ) → ltb j 64 ≡ true → gridSlot i j ≡ gridSlot r c → (i ≡ r) × (j ≡ c)
+grid-alone r c few i j also same = let less = ltb-true j 64 also in (omega arith, omega arith)
 
 -- the slots of a band
 module _ (width last : ℕ) (narrow : width ≤ 8) where

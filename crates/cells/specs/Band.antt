@@ -6,10 +6,11 @@ use lib.ListN.{getD}
 use Rattle.std.specs.declared.option.Option.{Option}
 use Rattle.std.specs.Of.Vec.{vec-items}
 use Rattle.interval.specs.declared.directed.Interval.{Interval}
-use Rattle.interval.specs.Directed.{nought, within}
-use Rattle.interval.specs.Refusals.{unless, orElse}
+use Rattle.interval.specs.Directed.{nought}
+use Rattle.interval.specs.Refusals.{unless}
+use Rattle.system.specs.Reading.{withValue}
 use Rattle.cells.specs.declared.band.Band.{Band}
-use Rattle.cells.specs.Keeping.{bottomReach, Rule}
+use Rattle.cells.specs.Keeping.{Rule}
 
 -- column minus row is from −width to width, or the column is the last
 abbrev pub inBand : (width last r c : ℕ) → Bool
@@ -25,9 +26,9 @@ bandSlot last r c = r * 18 + cond (eqb c last) 17 (c + 8 - r)
 abbrev pub bandCell : Band → ℕ → ℕ → Interval
 bandCell b r c = cond (keeps b r c) (getD (vec-items (b .list .cells)) (bandSlot (b .last) r c) nought) nought
 
--- a band of this width and last column takes a value within the reach, where it keeps the place
+-- a band of this width and last column takes what is put where it keeps the place
 abbrev pub bandRule : (width last : ℕ) → Rule
-bandRule width last cell r c v = orElse (unless (within bottomReach v) 3) (unless (inBand width last r c) 5)
+bandRule width last cell r c v = unless (inBand width last r c) 5
 
 abbrev pub widthRefusal : ℕ → Option ℕ
 widthRefusal width = unless (leb width 8) 3
@@ -43,3 +44,7 @@ banding b = record { width = b .width; last = b .last; cell = bandCell b }
 
 abbrev pub blankBand : (width last : ℕ) → Banding
 blankBand width last = record { width = width; last = last; cell = λ _ _. nought }
+
+-- the same band but for one cell
+abbrev pub withCellAt : ℕ → ℕ → Interval → Banding → Banding
+withCellAt r c v b = record { width = b .width; last = b .last; cell = withValue r c v (b .cell) }

@@ -3,12 +3,12 @@ use Prim.Native.Nat.{ℕ, _+_, _*_}
 use mathlib.Core.Bool.{cond}
 use lib.Dec.{ltb}
 use lib.ListN.{getD}
+use Rattle.std.specs.declared.option.Option.the-variants.{None}
 use Rattle.std.specs.Of.Vec.{vec-items}
 use Rattle.interval.specs.declared.directed.Interval.{Interval}
-use Rattle.interval.specs.Directed.{nought, within}
-use Rattle.interval.specs.Refusals.{unless}
+use Rattle.interval.specs.Directed.{nought}
 use Rattle.cells.specs.declared.grid.Grid.{Grid}
-use Rattle.cells.specs.Keeping.{bottomReach, Rule}
+use Rattle.cells.specs.Keeping.{Rule}
 
 -- where a cell stands in the list
 abbrev pub gridSlot : (r c : ℕ) → ℕ
@@ -18,6 +18,6 @@ gridSlot r c = r * 64 + c
 abbrev pub gridCell : Grid → ℕ → ℕ → Interval
 gridCell g r c = cond (ltb c 64) (getD (vec-items (g .list .cells)) (gridSlot r c) nought) nought
 
--- every place takes a value within the reach
+-- every place takes every value
 abbrev pub gridRule : Rule
-gridRule cell r c v = unless (within bottomReach v) 3
+gridRule cell r c v = None

@@ -7,10 +7,9 @@ use lib.ListN.{length, getD}
 use Rattle.std.specs.declared.option.Option.{Option}
 use Rattle.std.specs.declared.option.Option.the-variants.{Some, None}
 use Rattle.interval.specs.declared.directed.Interval.{Interval}
-use Rattle.interval.specs.Directed.{within}
-use Rattle.interval.specs.Refusals.{unless, orElse}
+use Rattle.interval.specs.Refusals.{unless}
 use Rattle.cells.specs.declared.parts.PartTable.{PartTable}
-use Rattle.cells.specs.Keeping.{bottomReach, Rule}
+use Rattle.cells.specs.Keeping.{Rule}
 use Rattle.cells.specs.Slots.{isNought, empty, cellIn}
 
 abbrev pub tableCell : PartTable → ℕ → ℕ → Interval
@@ -27,7 +26,7 @@ partsIn cell = total 64 (λ r. total 64 (λ c. cond (isNought (cell r c)) 0 1))
 
 -- what is taken where these cells stand: (0, 0), any value where a part stands, and any while fewer than 128 parts stand
 abbrev pub partsRule : Rule
-partsRule cell r c v = orElse (unless (within bottomReach v) 3) (unless (isNought v || (not (isNought (cell r c)) || ltb (partsIn cell) 128)) 6)
+partsRule cell r c v = unless (isNought v || (not (isNought (cell r c)) || ltb (partsIn cell) 128)) 6
 
 -- an empty slot of a table in which fewer than 128 parts stand, or nothing where 128 stand
 abbrev pub Room : PartTable → Option ℕ → Type 0

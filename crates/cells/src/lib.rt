@@ -5,6 +5,7 @@ mod keeping;
 mod lists;
 mod parts;
 mod places;
+mod values;
 
 pub use band::Band;
 pub use band::ops::BandCells;
@@ -15,3 +16,4 @@ pub use keeping::REACH;
 pub use parts::PartTable;
 pub use parts::ops::PartTableCells;
 pub use places::Place;
+pub use values::InReach;

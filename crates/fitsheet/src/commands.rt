@@ -47,10 +47,10 @@ pub(crate) fn read_command(line: &str) -> Result<Command<'_>, Complaint<'_>> {
     match first {
         "row" => Ok(Command::Row(rest)),
         "same" => read_same(rest),
-        "full" => read_on(SheetName::Full, rest),
-        "banded" => read_on(SheetName::Banded, rest),
-        "parts" => read_on(SheetName::Parts, rest),
-        _ => Err(Complaint::Unknown(first)),
+        _ => match read_name(first) {
+            Some(name) => read_on(name, rest),
+            None => Err(Complaint::Unknown(first)),
+        },
     }
 }
 

@@ -1,5 +1,4 @@
 // A sheet as a table: the held columns above, and a line for each row.
-use interval::Interval;
 use interval::IntervalDisplay;
 use interval::KindDisplay;
 use std::alloc::AllocError;

@@ -3,8 +3,9 @@ use Prim.Native.Nat.{ℕ}
 use Rattle.std.specs.declared.option.Option.{Option}
 use Rattle.std.specs.declared.option.Option.the-variants.{Some, None}
 use Rattle.interval.specs.declared.directed.Interval.{Interval}
-use Rattle.interval.specs.Refusals.{orElse}
-use Rattle.cells.specs.Keeping.{Rule}
+use Rattle.interval.specs.Directed.{within}
+use Rattle.interval.specs.Refusals.{unless, orElse}
+use Rattle.cells.specs.Keeping.{bottomReach, Rule}
 use Rattle.system.specs.declared.faults.PutFault.{PutFault}
 use Rattle.system.specs.Faults.{faultAt}
 use Rattle.system.specs.Reading.{Model}
@@ -27,9 +28,9 @@ withCells cell m = record { rows = m .rows; columns = m .columns; reach = m .rea
 abbrev pub bottomOf : {C : Type 0} → (C → ℕ → ℕ → Interval) → (C → Rule) → Bottom C → Ruled
 bottomOf cell rule s = ruled (withCells (cell (s .cells)) (frameModel (s .frame))) (rule (s .cells))
 
--- with which number it refuses a put: by the checks of every sheet, and then by its own rule
+-- with which number it refuses a put: by the checks of every sheet, then by its reach, and then by its own rule
 abbrev pub putRefusal : Ruled → ℕ → ℕ → Interval → Option ℕ
-putRefusal b r c v = orElse (firstRefusal (b .model) r c v) (b .rule (b .model .cell) r c v)
+putRefusal b r c v = orElse (firstRefusal (b .model) r c v) (orElse (unless (within bottomReach v) 3) (b .rule (b .model .cell) r c v))
 
 -- a refusal that arises here, as the fault of a put
 abbrev pub faultOf : Option ℕ → ℕ → ℕ → Option PutFault

@@ -7,6 +7,7 @@ ghost use Rattle.system.specs.Writing.{Puts, holdRefusal, freeRefusal, holding}
 ghost use Rattle.sheets.specs.Bottom.{bottomOf, putRefusal, stateOf};
 use crate::frame::Frame;
 use cells::Cells;
+use cells::InReach;
 use cells::REACH;
 use interval::Interval;
 use interval::Refusal;
@@ -21,15 +22,18 @@ pub struct Bottom<C> {
 }
 
 impl<C: Cells> Bottom<C> {
-    // Puts a value where the place is there and what keeps the cells takes it. What is beyond the limit of every sheet is
-    // beyond the reach of these cells too, and refused by the same number.
+    // Puts a value where the place is there, the value is within the reach, and the cells take it. What is beyond the limit
+    // of every sheet is beyond the reach too, and refused by the same number.
     fn store(&mut self, row: usize, column: usize, value: Interval) -> Result<(), Refusal>
         ensures changes { λ r. ⌜ Changes (putRefusal (bottomOf (C·Cells .cell) (C·Cells .rule) (now (self .entry))) row column value) (withValue row column value) (C·Cells .cell (now (self .entry) .cells)) (C·Cells .cell (now (self .exit) .cells)) r ⌝ }
         ensures steady { λ _. ⌜ C·Cells .rule (now (self .exit) .cells) ≡ C·Cells .rule (now (self .entry) .cells) ⌝ }
         ensures frame { λ _. ⌜ now (self .exit) .frame ≡ now (self .entry) .frame ⌝ }
     {
         let place = self.frame.place(row, column)?;
-        self.cells.put(place, value)
+        if !value.within(REACH) {
+            return Err(Refusal::OutsideLimit);
+        }
+        self.cells.put(place, InReach { cell: value })
     }
 }
 

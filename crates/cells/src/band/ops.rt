@@ -2,14 +2,16 @@
 ghost use mathlib.Core.Path.{_≡_};
 ghost use mathlib.Core.Bool.{true};
 ghost use Rattle.std.specs.Vec.{made};
+ghost use Rattle.interval.specs.Directed.{within as withinOf};
 ghost use Rattle.interval.specs.Refusals.{Changes};
-ghost use Rattle.cells.specs.Band.{keeps, bandSlot, bandCell, bandRule, banding, blankBand, widthRefusal};
+ghost use Rattle.cells.specs.Keeping.{bottomReach};
+ghost use Rattle.cells.specs.Band.{keeps, bandSlot, bandCell, bandRule, banding, blankBand, withCellAt, widthRefusal};
 use crate::band::Band;
 use crate::keeping::Cells;
-use crate::keeping::REACH;
 use crate::lists::CellList;
 use crate::lists::NOUGHT;
 use crate::places::Place;
+use crate::values::InReach;
 use interval::Interval;
 use interval::Refusal;
 use std::alloc::AllocError;
@@ -67,6 +69,14 @@ impl Band {
         };
         place.row * STRIDE + offset
     }
+
+    fn write(&mut self, place: Place, cell: Interval)
+        requires { ⌜ keeps (now self) (place .row) (place .column) ≡ true ⌝ ∗ ⌜ withinOf bottomReach cell ≡ true ⌝ }
+        ensures { λ _. ⌜ banding (now (self .exit)) ≡ withCellAt (place .row) (place .column) cell (banding (now (self .entry))) ⌝ }
+    {
+        let slot = self.slot(place);
+        self.list.set(slot, cell);
+    }
 }
 
 pub impl Cells for Band as BandCells {
@@ -82,15 +92,11 @@ pub impl Cells for Band as BandCells {
         }
     }
 
-    fn put(&mut self, place: Place, value: Interval) -> Result<(), Refusal> {
-        if !value.within(REACH) {
-            return Err(Refusal::OutsideLimit);
-        }
+    fn put(&mut self, place: Place, value: InReach) -> Result<(), Refusal> {
         if !self.keeps(place) {
             return Err(Refusal::NotKept);
         }
-        let slot = self.slot(place);
-        self.list.set(slot, value);
+        self.write(place, value.cell);
         Ok(())
     }
 }

@@ -1,13 +1,16 @@
 // What a grid takes and gives.
 ghost use mathlib.Core.Path.{_≡_};
 ghost use Rattle.std.specs.Vec.{made};
-ghost use Rattle.interval.specs.Directed.{nought};
+ghost use mathlib.Core.Bool.{true};
+ghost use Rattle.interval.specs.Directed.{nought, within as withinOf};
+ghost use Rattle.system.specs.Reading.{withValue};
+ghost use Rattle.cells.specs.Keeping.{bottomReach};
 ghost use Rattle.cells.specs.Grid.{gridSlot, gridCell, gridRule};
 use crate::grid::Grid;
 use crate::keeping::Cells;
-use crate::keeping::REACH;
 use crate::lists::CellList;
 use crate::places::Place;
+use crate::values::InReach;
 use interval::Interval;
 use interval::Refusal;
 use std::alloc::AllocError;
@@ -32,6 +35,13 @@ impl Grid {
     {
         self.list.clear();
     }
+
+    fn write(&mut self, place: Place, cell: Interval)
+        requires { ⌜ withinOf bottomReach cell ≡ true ⌝ }
+        ensures { λ _. ⌜ gridCell (now (self .exit)) ≡ withValue (place .row) (place .column) cell (gridCell (now (self .entry))) ⌝ }
+    {
+        self.list.set(slot(place), cell);
+    }
 }
 
 fn slot(place: Place) -> usize
@@ -49,11 +59,8 @@ pub impl Cells for Grid as GridCells {
         self.list.get(slot(place))
     }
 
-    fn put(&mut self, place: Place, value: Interval) -> Result<(), Refusal> {
-        if !value.within(REACH) {
-            return Err(Refusal::OutsideLimit);
-        }
-        self.list.set(slot(place), value);
+    fn put(&mut self, place: Place, value: InReach) -> Result<(), Refusal> {
+        self.write(place, value.cell);
         Ok(())
     }
 }

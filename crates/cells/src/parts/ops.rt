@@ -3,13 +3,13 @@ ghost use mathlib.Core.Path.{_≡_};
 ghost use Rattle.interval.specs.Directed.{nought};
 ghost use Rattle.cells.specs.Parts.{tableCell, partsRule, Room};
 use crate::keeping::Cells;
-use crate::keeping::REACH;
 use crate::lists::NOUGHT;
 use crate::parts::PartTable;
 use crate::parts::slots::Part;
 use crate::parts::slots::Slots;
 use crate::parts::slots::is_nought;
 use crate::places::Place;
+use crate::values::InReach;
 use interval::Interval;
 use interval::Refusal;
 
@@ -51,29 +51,19 @@ pub impl Cells for PartTable as PartTableCells {
     }
 
     // An interval (0, 0) takes the part off, since it empties the slot.
-    fn put(&mut self, place: Place, value: Interval) -> Result<(), Refusal> {
-        if !value.within(REACH) {
-            return Err(Refusal::OutsideLimit);
-        }
-        let (row, column) = (place.row, place.column);
+    fn put(&mut self, place: Place, value: InReach) -> Result<(), Refusal> {
+        let (row, column, cell) = (place.row, place.column, value.cell);
         if let Some(slot) = self.slots.find(row, column) {
-            self.slots.rewrite(slot, value);
+            self.slots.rewrite(slot, cell);
             return Ok(());
         }
-        if is_nought(value) {
+        if is_nought(cell) {
             return Ok(());
         }
         let Some(slot) = self.room() else {
             return Err(Refusal::PartsFull);
         };
-        self.slots.fill(
-            slot,
-            Part {
-                row,
-                column,
-                cell: value,
-            },
-        );
+        self.slots.fill(slot, Part { row, column, cell });
         Ok(())
     }
 }
