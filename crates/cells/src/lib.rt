@@ -1,4 +1,6 @@
 // What a bottom keeps its cells in: every cell, a band of them, or a table of parts.
+#![tactic(auto)]
+
 mod band;
 mod grid;
 mod keeping;

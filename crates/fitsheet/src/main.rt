@@ -1,4 +1,6 @@
 // Reads a script of commands on three sheets, and answers each line.
+#![tactic(auto)]
+
 mod bench;
 mod commands;
 mod reading;

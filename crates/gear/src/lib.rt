@@ -1,4 +1,6 @@
 // The gear: a layer that multiplies each row by a factor.
+#![tactic(auto)]
+
 mod gears;
 
 pub use gears::Gear;

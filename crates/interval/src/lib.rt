@@ -1,4 +1,6 @@
 // Directed intervals and Kaucher's arithmetic, proved at every sign, and the numbered refusals.
+#![tactic(auto)]
+
 mod arithmetic;
 mod classes;
 mod directed;

@@ -1,4 +1,6 @@
 // Tests of the crate interval.
+#![tactic(auto)]
+
 #[cfg(test)]
 mod limits;
 #[cfg(test)]

@@ -1,4 +1,6 @@
 // What a layer is: it stands on one system, and shows that system in its own way.
+#![tactic(auto)]
+
 mod layering;
 mod settings;
 mod shapes;

@@ -1,4 +1,6 @@
 // Two layers: one turns over each cell, and one shows the opposite in the columns that are marked.
+#![tactic(auto)]
+
 mod mirror;
 mod turnover;
 

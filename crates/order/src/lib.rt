@@ -1,4 +1,6 @@
 // The order: a layer that shows rows and columns in another order.
+#![tactic(auto)]
+
 mod tables;
 
 pub use tables::Order;

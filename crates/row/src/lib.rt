@@ -1,4 +1,6 @@
 // One row at fixed factors: each cell times its factor, added up, and what the sum says.
+#![tactic(auto)]
+
 ghost use Rattle.interval.specs.Refusals.{Answers};
 ghost use Rattle.std.specs.Prelude.{IfOk, Some};
 ghost use Rattle.interval.specs.Arithmetic.{multiple as multiple_of};

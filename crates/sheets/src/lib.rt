@@ -1,4 +1,6 @@
 // The bottoms: sheets that keep their cells themselves.
+#![tactic(auto)]
+
 mod banded;
 mod bottom;
 mod frame;

@@ -1,4 +1,6 @@
 // Tests of the crates system and sheets.
+#![tactic(auto)]
+
 #[cfg(test)]
 mod band;
 #[cfg(test)]

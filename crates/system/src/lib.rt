@@ -1,4 +1,6 @@
 // What a fit sheet is: a system to be read, a sheet to be written, and when two systems are the same.
+#![tactic(auto)]
+
 mod comparison;
 mod faults;
 mod reading;

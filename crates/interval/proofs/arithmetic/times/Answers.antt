@@ -7,8 +7,8 @@ use Rattle.interval.proofs.arithmetic.times.Goals as goal
 fits : (c : goal.Start) → SFits w64 (c.args.a *ℤ c.args.b)
 fits c = omega (arith, lin, product_size c.args.a c.args.b limit limit c.requires.0 c.requires.1)
 
-pub overflow-mul-result : goal.overflow-mul-result
-overflow-mul-result c =
+pub overflow_mul-result : goal.overflow_mul-result
+overflow_mul-result c =
     let f = c.ranges.a in
     let g = c.ranges.b in
     let h = fits c in
