@@ -4,7 +4,7 @@ use Rattle.row.proofs.Walk.along.Goals as goal
 pub loop-term-preserved : goal.loop-term-preserved
 loop-term-preserved c =
     let accepted = c.in-Ok.ensures in
-    one_more _ _ _ _ c.loop-term.invariant _ c.loop-term-test.true _ _ accepted.0 accepted.1 c.in-ok-push.ensures.items
+    one_more _ _ _ _ c.loop-term.invariant _ c.loop-term-test.true _ _ accepted.0 accepted.1 c.in_ok-push-in-Ok.ensures.items
 
 pub returns-in-Err : goal.returns-in-Err
 returns-in-Err c =
