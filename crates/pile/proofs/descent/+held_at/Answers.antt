@@ -3,12 +3,12 @@ use Rattle.pile.specs.Piles.{laid}
 use Rattle.pile.proofs.Layers.{bounded_laid, number_within}
 use Rattle.pile.proofs.descent.+held_at.Goals as goal
 
-pub returns-in-default : goal.returns-in-default
-returns-in-default g t c = rw (nil_from_length c.args.layers.now c.in-default.ensures.cases) c.held.ensures
+pub returns-in_default : goal.returns-in_default
+returns-in_default g t c = rw (nil_from_length c.args.layers.now c.in_default.ensures.cases) c.held.ensures
 
 pub signed-requires : goal.signed-requires
 signed-requires g t c =
     let m = g.S.System.meaning c.args.bottom.now in
     let ls = c.in-Some.rest.now in
-    let read = c.in-ok-number.ensures in
+    let read = c.in_ok-number.ensures in
     rw read.1 (number_within (laid g.L.Layer.view ls m) (bounded_laid g.L.Layer.view g.met.L.Layer.lawful ls m (g.met.S.System.bounded c.args.bottom.now)) _ read.0)

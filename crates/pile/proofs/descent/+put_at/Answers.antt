@@ -9,10 +9,10 @@ use Rattle.pile.proofs.Layers.{put_over}
 use Rattle.pile.proofs.descent.+put_at.Goals as goal
 
 pub returns-in-Ok : goal.returns-in-Ok
-returns-in-Ok g t c = rw (nil_from_length c.args.layers.now c.in-default.ensures.cases) c.in-Ok.ensures
+returns-in-Ok g t c = rw (nil_from_length c.args.layers.now c.in_default.ensures.cases) c.in-Ok.ensures
 
 pub returns-in-Err : goal.returns-in-Err
-returns-in-Err g t c = rw (nil_from_length c.args.layers.now c.in-default.ensures.cases) c.in-Err.ensures
+returns-in-Err g t c = rw (nil_from_length c.args.layers.now c.in_default.ensures.cases) c.in-Err.ensures
 
 pub returns-in-Ok-put-at : goal.returns-in-Ok-put-at
 returns-in-Ok-put-at g t c =

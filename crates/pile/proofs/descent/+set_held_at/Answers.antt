@@ -6,13 +6,13 @@ use Rattle.pile.specs.Piles.{laid, piled, held_refusal}
 use Rattle.pile.proofs.Layers.{at_none, held_over, held_checks}
 use Rattle.pile.proofs.descent.+set_held_at.Goals as goal
 
-pub returns-in-default : goal.returns-in-default
-returns-in-default g t c =
+pub returns-in_default : goal.returns-in_default
+returns-in_default g t c =
     let view = g.L.Layer.view in
     let m = g.S.System.meaning c.args.bottom.now in
     let before = state m (g.S.Sheet.refuses c.args.bottom.now) in
     let after = state (g.S.System.meaning c.hold-or-free.new.bottom) (g.S.Sheet.refuses c.hold-or-free.new.bottom) in
-    at_none c.args.layers.now c.in-default.ensures.cases
+    at_none c.args.layers.now c.in_default.ensures.cases
     (λ (ls : List g.row.L.Denot). Changes (held_refusal (laid view ls m) c.args.column c.args.number) (holding c.args.column c.args.number) (piled view ls before) (piled view ls after) c.hold-or-free.result)
     c.hold-or-free.ensures
 

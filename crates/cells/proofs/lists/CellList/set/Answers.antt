@@ -3,7 +3,7 @@ use Rattle.cells.specs.Keeping.{bottom_reach}
 use Rattle.cells.proofs.Filled.{each_set}
 use Rattle.cells.proofs.lists.CellList.set.Goals as goal
 
-pub invariant-of-self : goal.invariant-of-self
-invariant-of-self c =
+pub invariant_of-self : goal.invariant_of-self
+invariant_of-self c =
     let l = c.args.self.now in
-    (each_set (within bottom_reach) l.cells.items c.args.slot c.args.value nought l.near c.requires.1, tt)
+    record { near = each_set (within bottom_reach) l.cells.items c.args.slot c.args.value nought l.near c.requires.1 }

@@ -6,4 +6,4 @@ use Rattle.sheets.proofs.bottom.BottomSheet.free.Goals as goal
 pub returns : goal.returns
 returns g c =
     let s = c.args.self.now in
-    record { changes = (search rules, ap (λ (o : Model). state_of (ruled (with_cells (g.C.Cells.cell s.cells) o) (g.C.Cells.rule s.cells))) c.in-ok-free.ensures.1); rule = refl }
+    record { changes = (search rules, ap (λ (o : Model). state_of (ruled (with_cells (g.C.Cells.cell s.cells) o) (g.C.Cells.rule s.cells))) c.in_ok-free.ensures.1); rule = refl }

@@ -9,5 +9,5 @@ pub returns : goal.returns
 returns g c =
     let s = c.args.self.now in
     let number = to_z-of_z w64 c.args.number c.ranges.number in
-    let changed = c.in-ok-hold.ensures.1 ∙ ap (λ k. with_held c.args.column (Some k) (frame_model s.frame)) number in
+    let changed = c.in_ok-hold.ensures.1 ∙ ap (λ k. with_held c.args.column (Some k) (frame_model s.frame)) number in
     record { changes = (search rules, ap (λ (o : Model). state_of (ruled (with_cells (g.C.Cells.cell s.cells) o) (g.C.Cells.rule s.cells))) changed); rule = refl }

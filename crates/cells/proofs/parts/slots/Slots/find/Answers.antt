@@ -3,8 +3,8 @@ use Rattle.std.proofs.lemmas.List.{drop_all}
 use Rattle.cells.specs.Standing.{from_slot}
 use Rattle.cells.proofs.parts.slots.Slots.find.Goals as goal
 
-pub returns-then-stands-at : goal.returns-then-stands-at
-returns-then-stands-at c = grind (arith, from_slot)
+pub returns-then-stands_at : goal.returns-then-stands_at
+returns-then-stands_at c = grind (arith, from_slot)
 
 pub loop-i-preserved : goal.loop-i-preserved
 loop-i-preserved c = grind (arith, from_slot)
