@@ -7,11 +7,11 @@ use Rattle.sheets.proofs.frame.Frame.all_free.Goals as goal
 
 pub invariant_of-result : goal.invariant_of-result
 invariant_of-result c = record {
-    some_rows = c.requires.0;
-    few_rows = c.requires.1.0;
-    some_columns = c.requires.1.1.0;
-    few_columns = c.requires.1.1.1;
-    numbers = each_same held_within _ 64 None refl refl
+  some_rows = c.requires.0;
+  few_rows = c.requires.1.0;
+  some_columns = c.requires.1.1.0;
+  few_columns = c.requires.1.1.1;
+  numbers = each_same held_within _ 64 None refl refl;
 }
 
 pub returns : goal.returns
