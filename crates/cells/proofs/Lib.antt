@@ -1,2 +1,4 @@
 pub mod Filled
 pub mod Slotted
+pub mod Counting
+pub mod Standing

@@ -4,5 +4,4 @@ pub mod Grid
 pub mod Band
 pub mod Slots
 pub mod Parts
-pub mod Standing
-pub mod Counting
+pub mod Nearness

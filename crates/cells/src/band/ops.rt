@@ -4,7 +4,7 @@ ghost use Rattle.interval.specs.Directed.{within as within_of};
 ghost use Rattle.interval.specs.Refusals.{Changes};
 ghost use Rattle.cells.specs.Keeping.{bottom_reach};
 ghost use Rattle.cells.specs.Band.{keeps, band_slot, band_cell, band_rule, banding, blank_band, with_cell_at, width_refusal};
-ghost use Rattle.std.proofs.Common.{rules, arith};
+ghost use Rattle.std.proofs.Common.{rules};
 
 use crate::band::Band;
 use crate::keeping::Cells;
@@ -81,7 +81,7 @@ impl Cells for Band {
 
     ghost rule = { λ b. band_rule b.width b.last };
 
-    ghost near = { first_of (Prim.search rules, Prim.grind (arith, Self.row.coded.inj)) };
+    ghost near = { Prim.search rules };
 
     fn get(&self, place: Place) -> Interval {
         if self.keeps(place) {

@@ -4,7 +4,7 @@ ghost use Rattle.interval.specs.Directed.{nought, within as within_of};
 ghost use Rattle.system.specs.Reading.{with_value};
 ghost use Rattle.cells.specs.Keeping.{bottom_reach};
 ghost use Rattle.cells.specs.Grid.{grid_slot, grid_cell, grid_rule};
-ghost use Rattle.std.proofs.Common.{rules, arith};
+ghost use Rattle.std.proofs.Common.{rules};
 
 use crate::grid::Grid;
 use crate::keeping::Cells;
@@ -53,7 +53,7 @@ impl Cells for Grid {
 
     ghost rule = { λ _. grid_rule };
 
-    ghost near = { first_of (Prim.search rules, Prim.grind (arith, Self.row.coded.inj)) };
+    ghost near = { Prim.search rules };
 
     fn get(&self, place: Place) -> Interval {
         self.list.get(slot(place))

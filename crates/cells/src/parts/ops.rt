@@ -2,7 +2,7 @@
 ghost use Rattle.std.specs.Prelude.{◌≡◌};
 ghost use Rattle.interval.specs.Directed.{nought};
 ghost use Rattle.cells.specs.Parts.{table_cell, parts_rule, Room};
-ghost use Rattle.cells.specs.Standing.{near_cell};
+ghost use Rattle.cells.specs.Nearness.{near_cell};
 
 use crate::keeping::Cells;
 use crate::lists::NOUGHT;

@@ -1,5 +1,5 @@
 use Rattle.std.proofs.Common.{arith}
-use Rattle.cells.specs.Standing.{parts_stand}
+use Rattle.cells.proofs.Standing.{parts_stand}
 use Rattle.cells.proofs.parts.PartTable.room.Goals as goal
 
 pub returns : goal.returns

@@ -1,5 +1,5 @@
 use Rattle.std.proofs.Common.{refl}
-use Rattle.cells.specs.Standing.{by_rewrite, by_fill}
+use Rattle.cells.proofs.Standing.{by_rewrite, by_fill}
 use Rattle.cells.proofs.parts.ops.PartTableCells.put.Goals as goal
 
 pub invariant_of-self : goal.invariant_of-self

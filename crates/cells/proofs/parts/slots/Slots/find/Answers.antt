@@ -1,6 +1,6 @@
 use Rattle.std.proofs.Common.{arith}
 use Rattle.std.proofs.lemmas.List.{drop_all}
-use Rattle.cells.specs.Standing.{from_slot}
+use Rattle.cells.proofs.Standing.{from_slot}
 use Rattle.cells.proofs.parts.slots.Slots.find.Goals as goal
 
 pub returns-then-stands_at : goal.returns-then-stands_at

@@ -1,6 +1,6 @@
 use Rattle.std.proofs.Common.{arith, length-drop}
 use Rattle.std.proofs.lemmas.List.{drop_all}
-use Rattle.cells.specs.Standing.{from_slot, standing_most}
+use Rattle.cells.proofs.Standing.{from_slot, standing_most}
 use Rattle.cells.proofs.parts.slots.Slots.vacant.Goals as goal
 
 pub returns-then-is_empty : goal.returns-then-is_empty

@@ -6,7 +6,7 @@ use Rattle.std.proofs.lemmas.Int.{ints}
 use Rattle.std.proofs.lemmas.Bool.{false≢true, and_parts}
 use Rattle.std.proofs.lemmas.Bool.Decides.{nat_tests}
 use Rattle.interval.specs.declared.directed.Interval.{Interval}
-use Rattle.interval.specs.Directed.{nought, within, Within}
+use Rattle.interval.specs.Directed.{nought, within}
 use Rattle.cells.specs.declared.parts.slots.Part.{Part}
 use Rattle.cells.specs.declared.parts.PartTable.{PartTable}
 use Rattle.cells.specs.declared.places.Place.{Place}
@@ -14,7 +14,8 @@ use Rattle.system.specs.Reading.{with_value}
 use Rattle.cells.specs.Keeping.{bottom_reach}
 use Rattle.cells.specs.Slots.{is_nought, empty, part_at, stands_at, cell_in, standing, one_part, all_near, all_inside, rewritten, Found}
 use Rattle.cells.specs.Parts.{table_cell, parts_in, parts_rule, Room}
-use Rattle.cells.specs.Counting.{count, parts_none, parts_raised}
+use Rattle.cells.specs.Nearness.{rest_near}
+use Rattle.cells.proofs.Counting.{count, parts_none, parts_raised}
 
 -- an interval that passes the test is (0, 0)
 nought_is : (x : Interval) → is_nought x ≡ true → x ≡ nought
@@ -31,13 +32,6 @@ standing_most [] = omega arith
 standing_most (p ∷ ps) = grind (arith, nat_tests, standing_most ps)
 
 -- ---- parts within the reach
-
-rest_near : (p : Part) (ps : List Part) → all_near (p ∷ ps) ≡ true → all_near ps ≡ true
-rest_near p ps e = (and_parts (within bottom_reach p.cell) (all_near ps) e).1
-
-pub near_cell : (ps : List Part) (r c : ℕ) → all_near ps ≡ true → Within bottom_reach (cell_in ps r c)
-near_cell [] r c e = omega arith
-near_cell (p ∷ ps) r c e = grind (arith, nat_tests, near_cell ps r c (rest_near p ps e))
 
 near_set : (ps : List Part) (i : ℕ) (q : Part) → all_near ps ≡ true → within bottom_reach q.cell ≡ true → all_near (slice_set ps i q) ≡ true
 near_set [] i q e w = refl
