@@ -12,6 +12,7 @@ use Rattle.system.specs.Faults.{fault_of}
 use Rattle.system.specs.Writing.{Refuses, State, state, first_refusal, Puts, holding}
 use Rattle.layer.specs.Views.{Extent, View, Lawful, extent_of, through, layered, signed, own_refusal, or_raised, answers, over}
 use Rattle.pile.specs.Piles.{laid, handed, held_refusal}
+use Rattle.pile.specs.Laws.{bounded_laid}
 
 pub laid_rows : {L : Type 0} (view : L → Extent → View) (ls : List L) (m : Model) → (laid view ls m).rows ≡ m.rows
 laid_rows view [] m = refl
@@ -20,31 +21,6 @@ laid_rows view (l ∷ ls) m = laid_rows view ls m
 pub laid_columns : {L : Type 0} (view : L → Extent → View) (ls : List L) (m : Model) → (laid view ls m).columns ≡ m.columns
 laid_columns view [] m = refl
 laid_columns view (l ∷ ls) m = laid_columns view ls m
-
--- a row or a column that is there stands for one that is there
-inside : (f : ℕ → ℕ) (n : ℕ) → ((k : ℕ) → ltb (f k) n ≡ ltb k n) → (k : ℕ) → k < n → f k < n
-inside f n same k less = ltb-true (f k) n (same k ∙ lt-ltb k n less)
-
-signed_within : (b : Bool) (k : Option ℤ) → held_within k ≡ true → held_within (signed b k) ≡ true
-signed_within b None h = refl
-signed_within true (Some k) h = grind (arith, ints, nat_tests)
-signed_within false (Some k) h = h
-
-pub bounded_through : (v : View) (m : Model) → Lawful (extent_of m) v → Bounded m → Bounded (through v m)
-bounded_through v m law b =
-    record {
-      some_rows = b.some_rows;
-      few_rows = b.few_rows;
-      some_columns = b.some_columns;
-      few_columns = b.few_columns;
-      small_reach = law.small_reach b.small_reach;
-      cells = λ r c hr hc. law.near r c _ (b.cells (v.row r) (v.column c) (inside v.row m.rows law.rows_inside r hr) (inside v.column m.columns law.columns_inside c hc));
-      numbers = λ c hc. signed_within (v.negated c) (m.held (v.column c)) (b.numbers (v.column c) (inside v.column m.columns law.columns_inside c hc));
-    }
-
-pub bounded_laid : {L : Type 0} (view : L → Extent → View) → ((l : L) (e : Extent) → Lawful e (view l e)) → (ls : List L) (m : Model) → Bounded m → Bounded (laid view ls m)
-bounded_laid view law [] m b = b
-bounded_laid view law (l ∷ ls) m b = bounded_through (view l (extent_of (laid view ls m))) (laid view ls m) (law l (extent_of (laid view ls m))) (bounded_laid view law ls m b)
 
 -- what is read where a place is there is within the limits of every system
 met : (b : Bool) (n : ℕ) → unless b n ≡ None → b ≡ true

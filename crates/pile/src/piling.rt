@@ -1,7 +1,7 @@
 // A pile, and what it takes and gives.
 ghost use Rattle.std.specs.Prelude.{◌≡◌};
 ghost use Rattle.pile.specs.Piles.{laid, handed};
-ghost use Rattle.std.proofs.Common.{rules};
+ghost use Rattle.pile.specs.Laws.{bounded_laid, checks_handed, places_handed};
 
 use crate::descent::{cell_at, held_at, put_at, set_held_at, shape_at};
 use interval::{Interval, Refusal};
@@ -18,7 +18,7 @@ pub struct Pile<L, S> {
 impl<L: Layer, S: System> System for Pile<L, S> {
     ghost meaning = { λ p. laid L.Layer.view p.layers.items (S.System.meaning p.bottom) };
 
-    ghost bounded = { Prim.search rules };
+    ghost bounded = { λ p. bounded_laid L.Layer.view L.Layer.lawful p.layers.items (S.System.meaning p.bottom) (S.System.bounded p.bottom) };
 
     fn rows(&self) -> usize {
         self.bottom.rows()
@@ -44,9 +44,9 @@ impl<L: Layer, S: System> System for Pile<L, S> {
 impl<L: Layer, S: Sheet> Sheet for Pile<L, S> {
     ghost refuses = { λ p. handed L.Layer.view p.layers.items (S.System.meaning p.bottom) (S.Sheet.refuses p.bottom) };
 
-    ghost checks = { Prim.search rules };
+    ghost checks = { λ p. checks_handed L.Layer.view p.layers.items (S.System.meaning p.bottom) (S.Sheet.refuses p.bottom) (S.Sheet.checks p.bottom) };
 
-    ghost places = { Prim.search rules };
+    ghost places = { λ p. places_handed L.Layer.view p.layers.items (S.System.meaning p.bottom) (S.Sheet.refuses p.bottom) (S.Sheet.places p.bottom) };
 
     fn put(&mut self, row: usize, column: usize, value: Interval) -> Result<(), PutFault> {
         match put_at(self.layers.as_slice(), &mut self.bottom, row, column, value) {

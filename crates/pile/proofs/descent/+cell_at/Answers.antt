@@ -1,7 +1,8 @@
 use Rattle.std.proofs.lemmas.List.{nil_from_length}
 use Rattle.std.proofs.Common.{true, sym, subst}
 use Rattle.pile.specs.Piles.{laid}
-use Rattle.pile.proofs.Layers.{bounded_laid, cell_within}
+use Rattle.pile.specs.Laws.{bounded_laid}
+use Rattle.pile.proofs.Layers.{cell_within}
 use Rattle.pile.proofs.descent.+cell_at.Goals as goal
 
 pub returns-in_default : goal.returns-in_default
@@ -13,4 +14,4 @@ invariant_of-shown g t c =
     let ls = c.in-Some.rest.now in
     let read = c.in_ok-cell.ensures in
     let near = cell_within (laid g.L.Layer.view ls m) (bounded_laid g.L.Layer.view g.met.L.Layer.lawful ls m (g.met.S.System.bounded c.args.bottom.now)) _ _ read.0 in
-    (rw read.1 near, tt)
+    record { near = rw read.1 near }

@@ -1,6 +1,7 @@
 use Rattle.std.proofs.lemmas.List.{nil_from_length}
 use Rattle.pile.specs.Piles.{laid}
-use Rattle.pile.proofs.Layers.{bounded_laid, number_within}
+use Rattle.pile.specs.Laws.{bounded_laid}
+use Rattle.pile.proofs.Layers.{number_within}
 use Rattle.pile.proofs.descent.+held_at.Goals as goal
 
 pub returns-in_default : goal.returns-in_default
