@@ -4,7 +4,7 @@ ghost use Rattle.layers.specs.Turnover.{turned, TurnoverLaw};
 ghost use Rattle.std.proofs.Common.{rules};
 
 use interval::{Interval, Refusal};
-use layer::{InLimit, Layer, SettingFault, Shape};
+use layer::{InLimit, Layer, Settable, SettingFault, Shape};
 
 #[derive(Clone, Copy)]
 pub struct Turnover {}
@@ -22,11 +22,7 @@ impl Turnover {
 }
 
 impl Layer for Turnover {
-    type Change = NoChange;
-
     ghost view = { λ _. turned };
-
-    ghost changes = { λ _ _ _ _ _. ⊥ };
 
     ghost lawful = { Prim.search rules };
 
@@ -57,6 +53,12 @@ impl Layer for Turnover {
             cell: value.cell.dual(),
         })
     }
+}
+
+impl Settable for Turnover {
+    type Change = NoChange;
+
+    ghost changes = { λ _ _ _ _ _. ⊥ };
 
     fn change(&mut self, below: Shape, change: NoChange) -> Result<(), SettingFault> {
         match change {}

@@ -5,11 +5,11 @@ ghost use Rattle.layer.specs.Settings.{Sets};
 ghost use Rattle.layer.specs.Shapes.{extent};
 ghost use Rattle.gear.specs.Factors.{is_factor as is_factor_of, is_multiple as is_multiple_of, quotient as quotient_of, largest as largest_of};
 ghost use Rattle.gear.specs.Gears.{factors_of, all_one, factors_fit, acting_factor, geared, with_factor, factor_refusal, GearLaw};
-ghost use Rattle.std.proofs.Common.{rules, arith};
+ghost use Rattle.std.proofs.Common.{rules};
 
 use crate::gears::Gear;
 use interval::{Interval, Refusal, in_limit};
-use layer::{InLimit, Layer, SettingFault, Shape};
+use layer::{InLimit, Layer, Settable, SettingFault, Shape};
 
 const MAX_FACTOR: u64 = 100;
 
@@ -129,13 +129,9 @@ fn quotient(value: InLimit, factor: i64) -> InLimit
 }
 
 impl Layer for Gear {
-    type Change = Factor;
-
     ghost view = { λ g. geared (factors_of g) };
 
-    ghost changes = { λ g below change after r. Sets (factor_refusal (factors_of g) below change) (with_factor (factors_of g) below change) (factors_of g) (factors_of after) r };
-
-    ghost lawful = { first_of (Prim.search rules, Prim.grind (arith, Self.row.coded.inj)) };
+    ghost lawful = { Prim.search rules };
 
     fn reach(&self, below: Shape) -> u64 {
         if self.fits(below) {
@@ -170,6 +166,12 @@ impl Layer for Gear {
         }
         Ok(quotient(value, factor))
     }
+}
+
+impl Settable for Gear {
+    type Change = Factor;
+
+    ghost changes = { λ g below change after r. Sets (factor_refusal (factors_of g) below change) (with_factor (factors_of g) below change) (factors_of g) (factors_of after) r };
 
     fn change(&mut self, below: Shape, change: Factor) -> Result<(), SettingFault> {
         if change.row >= below.rows {

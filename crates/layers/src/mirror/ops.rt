@@ -4,11 +4,11 @@ ghost use Rattle.interval.specs.Arithmetic.{opposite as opposite_of};
 ghost use Rattle.layer.specs.Settings.{Sets};
 ghost use Rattle.layer.specs.Shapes.{extent};
 ghost use Rattle.layers.specs.Mirror.{marks_of, no_marks, acts_marked, mirrored, mark_refusal, with_mark, MirrorLaws};
-ghost use Rattle.std.proofs.Common.{rules, arith};
+ghost use Rattle.std.proofs.Common.{rules};
 
 use crate::mirror::Mirror;
 use interval::{Interval, Refusal};
-use layer::{InLimit, Layer, SettingFault, Shape};
+use layer::{InLimit, Layer, Settable, SettingFault, Shape};
 
 // Marks a column, or takes its mark off.
 #[derive(Clone, Copy)]
@@ -61,13 +61,9 @@ fn opposite(value: InLimit) -> Interval
 }
 
 impl Layer for Mirror {
-    type Change = Mark;
-
     ghost view = { λ m. mirrored (marks_of m) };
 
-    ghost changes = { λ m below change after r. Sets (mark_refusal below change) (with_mark (marks_of m) below change) (marks_of m) (marks_of after) r };
-
-    ghost lawful = { first_of (Prim.search rules, Prim.grind (arith, Self.row.coded.inj)) };
+    ghost lawful = { Prim.search rules };
 
     fn reach(&self, below: Shape) -> u64 {
         below.reach
@@ -104,6 +100,12 @@ impl Layer for Mirror {
             Ok(value)
         }
     }
+}
+
+impl Settable for Mirror {
+    type Change = Mark;
+
+    ghost changes = { λ m below change after r. Sets (mark_refusal below change) (with_mark (marks_of m) below change) (marks_of m) (marks_of after) r };
 
     fn change(&mut self, below: Shape, change: Mark) -> Result<(), SettingFault> {
         if change.column >= below.columns {

@@ -8,7 +8,7 @@ ghost use Rattle.std.proofs.Common.{rules};
 
 use crate::tables::{Order, Places};
 use interval::{Interval, Refusal};
-use layer::{InLimit, Layer, SettingFault, Shape};
+use layer::{InLimit, Layer, Settable, SettingFault, Shape};
 
 // Exchanges two rows, or two columns.
 #[derive(Clone, Copy)]
@@ -91,11 +91,7 @@ impl Order {
 }
 
 impl Layer for Order {
-    type Change = Exchange;
-
     ghost view = { λ o. arranged (arrangement_of o) };
-
-    ghost changes = { λ o below change after r. Sets (exchange_refusal below change) (exchanged_of (arrangement_of o) below change) (arrangement_of o) (arrangement_of after) r };
 
     ghost lawful = { Prim.search rules };
 
@@ -132,6 +128,12 @@ impl Layer for Order {
     ) -> Result<InLimit, Refusal> {
         Ok(value)
     }
+}
+
+impl Settable for Order {
+    type Change = Exchange;
+
+    ghost changes = { λ o below change after r. Sets (exchange_refusal below change) (exchanged_of (arrangement_of o) below change) (arrangement_of o) (arrangement_of after) r };
 
     // The tables are made anew, and written whole.
     fn change(&mut self, below: Shape, change: Exchange) -> Result<(), SettingFault> {
