@@ -41,12 +41,11 @@ impl Mirror {
         ensures { (result.columns ≡ below.columns) × ((marks_of result).marked ≡ acts_marked (marks_of self.now) (extent below)) }
     {
         if self.columns == below.columns {
-            *self
-        } else {
-            Mirror {
-                marks: [false; 64],
-                columns: below.columns,
-            }
+            return *self;
+        }
+        Mirror {
+            marks: [false; 64],
+            columns: below.columns,
         }
     }
 }
