@@ -4,7 +4,7 @@ ghost use Rattle.layer.specs.Settings.{Sets};
 ghost use Rattle.layer.specs.Shapes.{extent};
 ghost use Rattle.order.specs.Places.{swapped};
 ghost use Rattle.order.specs.Tables.{place_of, arrangement_of, as_they_are, fits_counts, acting_row, acting_column, arranged, exchange_refusal, exchanged as exchanged_of, OrderLaws};
-ghost use Rattle.std.proofs.Common.{rules};
+ghost use Rattle.order.specs.Laws.{lawful};
 
 use crate::tables::{Order, Places};
 use interval::{Interval, Refusal};
@@ -93,7 +93,7 @@ impl Order {
 impl Layer for Order {
     ghost view = { λ o. arranged (arrangement_of o) };
 
-    ghost lawful = { Prim.search rules };
+    ghost lawful = { lawful };
 
     fn reach(&self, below: Shape) -> u64 {
         below.reach
