@@ -1,1 +1,3 @@
 pub mod Exchanging
+pub mod Once
+pub mod Ordered
