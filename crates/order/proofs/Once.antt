@@ -1,9 +1,8 @@
 -- Numbers below n that are placed apart among themselves: each is named once.
-use Rattle.std.proofs.Common.{◌≡◌, ℕ, zero, suc, ◌<◌, Bool, cond, eqb, ◌⊎◌, inl, inr, sym, refl, ap, ◌∙◌, arith, ⊎_elim}
+use Rattle.std.proofs.Common.{◌≡◌, ℕ, zero, suc, ◌<◌, cond, eqb, ◌⊎◌, inl, inr, sym, ap, ◌∙◌, arith, ⊎_elim}
 use Rattle.std.proofs.lemmas.Bool.Decides.{nat_tests}
-use Rattle.std.proofs.lemmas.Bool.{cases_eq, eq-eqb, eqb-true}
-use Rattle.order.specs.declared.tables.Places.{Places}
-use Rattle.order.specs.Tables.{place_of, NamesOnce}
+use Rattle.std.proofs.lemmas.Bool.{cases_eq}
+use Rattle.order.specs.Tables.{NamesOnce}
 
 -- f with its value n turned into k
 abbrev squeezed : (n k : ℕ) → (ℕ → ℕ) → ℕ → ℕ

@@ -2,10 +2,9 @@
 -- proofs/.
 use Rattle.std.specs.Prelude.{◌≡◌, ℕ, Bool, true, false, cond, ◌==◌}
 use Rattle.std.proofs.Common.{ltb, refl, ap, ◌∙◌, sym}
-use Rattle.std.proofs.lemmas.Bool.{eqb-true, and_parts, cases_Bool}
+use Rattle.std.proofs.lemmas.Bool.{eqb-true, and_parts}
 use Rattle.layer.specs.Views.{Extent, Lawful}
 use Rattle.order.specs.declared.tables.Order.{Order}
-use Rattle.order.specs.Places.{placed}
 use Rattle.order.specs.Tables.{place_of, arrangement_of, fits_counts, arranged}
 
 -- a choice between two ways to stand for a number, of which both keep to the law

@@ -1,18 +1,16 @@
 -- One layer over a system, and all layers of a pile.
-use Rattle.std.proofs.Common.{◌≡◌, ℕ, zero, suc, ◌<◌, ◌≤◌, Bool, true, false, cond, ◌&&◌, eqb, ltb, leb, List, [], ◌∷◌, length, ℤ, pos, negsuc, neg_ℤ, nat_abs, Some, None, Ok, Option, sym, refl, ap, ◌∙◌, subst, ⊎_elim, arith}
+use Rattle.std.proofs.Common.{◌≡◌, ℕ, zero, suc, Bool, true, false, cond, ◌&&◌, eqb, ltb, List, [], ◌∷◌, length, ℤ, pos, negsuc, neg_ℤ, nat_abs, Some, None, Ok, Option, sym, refl, ap, ◌∙◌, subst, ⊎_elim, arith}
 use Rattle.std.proofs.lemmas.List.{nil_from_length}
-use Rattle.std.proofs.lemmas.Bool.Decides.{nat_tests}
 use Rattle.std.proofs.lemmas.Int.{ints}
-use Rattle.std.proofs.lemmas.Bool.{lt-ltb, ltb-true, eqb-true, and_parts, and_from, le-leb, cases_Bool}
+use Rattle.std.proofs.lemmas.Bool.{ltb-true, eqb-true, and_parts, and_from, le-leb, cases_Bool}
 use Rattle.interval.specs.declared.directed.Interval.{Interval}
-use Rattle.interval.specs.Directed.{Within, within, in_limit}
+use Rattle.interval.specs.Directed.{within, in_limit}
 use Rattle.interval.specs.Refusals.{unless, or_else}
 use Rattle.system.specs.Reading.{Model, Bounded, max_reach, max_held, has_place, has_column, with_value, with_cell, held_within}
 use Rattle.system.specs.Faults.{fault_of}
-use Rattle.system.specs.Writing.{Refuses, State, state, first_refusal, Puts, holding}
+use Rattle.system.specs.Writing.{State, state, first_refusal, Puts, holding}
 use Rattle.layer.specs.Views.{Extent, View, Lawful, extent_of, through, layered, signed, own_refusal, or_raised, answers, over}
-use Rattle.pile.specs.Piles.{laid, handed, held_refusal}
-use Rattle.pile.specs.Laws.{bounded_laid}
+use Rattle.pile.specs.Piles.{laid, held_refusal}
 
 pub laid_rows : {L : Type 0} (view : L → Extent → View) (ls : List L) (m : Model) → (laid view ls m).rows ≡ m.rows
 laid_rows view [] m = refl

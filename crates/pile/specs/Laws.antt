@@ -1,16 +1,15 @@
 -- Why a pile is a sheet as every sheet is. The proofs of the traits' laws cite these, and such a proof may cite no file of
 -- proofs/.
-use Rattle.std.proofs.Common.{◌≡◌, ℕ, ◌<◌, Bool, true, false, cond, eqb, ltb, List, [], ◌∷◌, ℤ, Some, None, Option, refl, ap, ◌∙◌, sym, arith}
+use Rattle.std.proofs.Common.{◌≡◌, ℕ, ◌<◌, Bool, true, false, ltb, List, [], ◌∷◌, ℤ, Some, None, Option, refl, ap, ◌∙◌, arith}
 use Rattle.std.proofs.lemmas.Bool.Decides.{nat_tests}
 use Rattle.std.proofs.lemmas.Int.{ints}
 use Rattle.std.proofs.lemmas.Bool.{lt-ltb, ltb-true}
-use Rattle.interval.specs.declared.directed.Interval.{Interval}
 use Rattle.interval.specs.Refusals.{or_else}
 use Rattle.system.specs.declared.faults.PutFault.{PutFault}
 use Rattle.system.specs.Reading.{Model, Bounded, held_within}
 use Rattle.system.specs.Faults.{fault_at, fault_of, raised}
 use Rattle.system.specs.Writing.{Refuses, first_refusal, ChecksFirst, NamesPlace}
-use Rattle.layer.specs.Views.{Extent, View, Lawful, extent_of, through, signed, own_refusal, or_raised, answers}
+use Rattle.layer.specs.Views.{Extent, View, Lawful, extent_of, through, signed, own_refusal, or_raised}
 use Rattle.pile.specs.Piles.{laid, handed}
 
 -- a row or a column that is there stands for one that is there

@@ -1,5 +1,4 @@
 use Rattle.std.proofs.lemmas.List.{nil_from_length}
-use Rattle.std.proofs.Common.{true, sym, subst}
 use Rattle.pile.specs.Piles.{laid}
 use Rattle.pile.specs.Laws.{bounded_laid}
 use Rattle.pile.proofs.Layers.{cell_within}

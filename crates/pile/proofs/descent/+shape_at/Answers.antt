@@ -1,5 +1,3 @@
-use Rattle.std.proofs.Common.{◌≡◌}
-use Rattle.layer.specs.Shapes.{extent}
 use Rattle.std.proofs.lemmas.List.{nil_from_length}
 use Rattle.pile.proofs.descent.+shape_at.Goals as goal
 

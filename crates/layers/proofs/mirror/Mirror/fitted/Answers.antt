@@ -1,4 +1,4 @@
-use Rattle.std.proofs.Common.{rules, refl}
+use Rattle.std.proofs.Common.{refl}
 use Rattle.layer.specs.Shapes.{extent}
 use Rattle.layers.specs.Mirror.{marks_of}
 use Rattle.layers.proofs.Marking.{fitting, unfitting}

@@ -1,4 +1,4 @@
-use Rattle.std.proofs.Common.{◌≡◌, ℕ, ◌≤◌, length, ltb, eqb, ap, ap₂, ◌∙◌, rules, arith}
+use Rattle.std.proofs.Common.{◌≡◌, ◌≤◌, length, ltb, eqb, ap, ap₂, ◌∙◌, rules, arith}
 use Rattle.order.specs.Places.{swapped}
 use Rattle.order.proofs.Exchanging.{swapped_inside, swapped_apart, exchanged_place}
 use Rattle.order.proofs.tables.Places.exchanged.Goals as goal

@@ -1,4 +1,4 @@
-use Rattle.std.proofs.Common.{◌≡◌, ℕ, ap, ◌∙◌, rules}
+use Rattle.std.proofs.Common.{ℕ, ap, ◌∙◌, rules}
 use Rattle.order.specs.Places.{swapped}
 use Rattle.order.proofs.tables.ops.OrderSettable.change.Goals as goal
 
