@@ -6,4 +6,4 @@ mod turnover;
 
 pub use mirror::Mirror;
 pub use mirror::ops::Mark;
-pub use turnover::{NoChange, Turnover};
+pub use turnover::Turnover;

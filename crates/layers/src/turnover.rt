@@ -4,14 +4,11 @@ ghost use Rattle.layers.specs.Turnover.{turned, TurnoverLaw};
 ghost use Rattle.std.proofs.Common.{rules};
 
 use interval::{Interval, Refusal};
-use layer::{InLimit, Layer, Settable, SettingFault, Shape};
+use layer::{InLimit, Layer, Shape};
 
+// It has no settings.
 #[derive(Clone, Copy)]
 pub struct Turnover {}
-
-// A turnover has no settings.
-#[derive(Clone, Copy)]
-pub enum NoChange {}
 
 impl Turnover {
     pub fn new() -> Turnover
@@ -52,15 +49,5 @@ impl Layer for Turnover {
         Ok(InLimit {
             cell: value.cell.dual(),
         })
-    }
-}
-
-impl Settable for Turnover {
-    type Change = NoChange;
-
-    ghost changes = { λ _ _ _ _ _. ⊥ };
-
-    fn change(&mut self, below: Shape, change: NoChange) -> Result<(), SettingFault> {
-        match change {}
     }
 }
