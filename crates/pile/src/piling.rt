@@ -20,10 +20,12 @@ impl<L: Layer, S: System> System for Pile<L, S> {
 
     ghost bounded = { λ p. bounded_laid L.Layer.view L.Layer.lawful p.layers.items (S.System.meaning p.bottom) (S.System.bounded p.bottom) };
 
+    #[tactic(auto, using(crate::proofs::Layers::laid_rows))]
     fn rows(&self) -> usize {
         self.bottom.rows()
     }
 
+    #[tactic(auto, using(crate::proofs::Layers::laid_columns))]
     fn columns(&self) -> usize {
         self.bottom.columns()
     }
