@@ -1,6 +1,7 @@
 -- Each refusal's number, and what a call answers by it.
 use Rattle.std.specs.Prelude.{◌≡◌, ℕ, Bool, cond, List, Some, None, Ok, Err, codes, Option, Result, ◌==◌}
 use Rattle.interval.specs.declared.refusals.Refusal.{Refusal}
+use Rattle.interval.specs.declared.refusals.NoSuchRefusal.{NoSuchRefusal}
 use Rattle.interval.specs.declared.refusals.Refusal.TheVariants.{NoSuchPlace, OutsideLimit, NotKept, PartsFull}
 
 abbrev pub number_of : Refusal → ℕ
@@ -12,10 +13,10 @@ number_of PartsFull = 6
 abbrev pub refusal_of : ℕ → Option Refusal
 refusal_of n = cond (n == 2) (Some NoSuchPlace) (cond (n == 3) (Some OutsideLimit) (cond (n == 5) (Some NotKept) (cond (n == 6) (Some PartsFull) None)))
 
--- the refusal whose number is n, or nothing where none has it
-abbrev pub Numbered : ℕ → Option Refusal → Type 0
-Numbered n (Some e) = number_of e ≡ n
-Numbered n None = (e : Refusal) → ¬ (number_of e ≡ n)
+-- the refusal whose number is n, or that number where none has it
+abbrev pub Numbered : ℕ → Result Refusal NoSuchRefusal → Type 0
+Numbered n (Ok e) = (refusal_of n ≡ Some e) × (number_of e ≡ n)
+Numbered n (Err u) = (refusal_of n ≡ None) × (u.0 ≡ n) × ((e : Refusal) → ¬ (number_of e ≡ n))
 
 -- what is printed of it
 abbrev pub text_of : Refusal → List ℕ
@@ -33,10 +34,14 @@ abbrev pub or_else : Option ℕ → Option ℕ → Option ℕ
 or_else None next = next
 or_else (Some n) next = Some n
 
--- what a call answers: its refusal, if there is one, and otherwise the value
+-- what a call answers: its refusal, if there is one, and otherwise a value of which something is true
+abbrev pub Gives : {V : Type 0} → Option ℕ → (V → Type 0) → Result V Refusal → Type 0
+Gives refusal Is (Ok v) = (refusal ≡ None) × Is v
+Gives refusal Is (Err e) = refusal ≡ Some (number_of e)
+
+-- the same, where one value is the answer
 abbrev pub Answers : {V : Type 0} → Option ℕ → V → Result V Refusal → Type 0
-Answers refusal v (Ok w) = (refusal ≡ None) × (w ≡ v)
-Answers refusal v (Err e) = refusal ≡ Some (number_of e)
+Answers refusal v = Gives refusal (λ w. w ≡ v)
 
 -- what a call that changes something does: refused, it leaves it as it was before, and otherwise it makes the change
 abbrev pub Changes : {M : Type 0} → Option ℕ → (M → M) → (before after : M) → Result (Unit {0}) Refusal → Type 0

@@ -2,6 +2,7 @@
 ghost use Rattle.std.specs.Prelude.{◌≡◌, true, Some, Decides};
 ghost use Rattle.interval.specs.Directed.{dual as dual_of, kind_of, kind_text, ends_text, Says, LiesIn, in_limit as in_limit_of, within as within_of, Within};
 
+use std::cmp::Ordering;
 use std::fmt;
 
 #[derive(Clone, Copy, PartialEq, Eq, Debug)]
@@ -24,10 +25,10 @@ impl Interval {
         ensures value { result ≡ kind_of self }
         ensures says { Says result self }
     {
-        match self.first {
-            a if a < self.second => Kind::Spread,
-            a if a > self.second => Kind::Trim,
-            _ => Kind::Fixed,
+        match self.first.cmp(&self.second) {
+            Ordering::Less => Kind::Spread,
+            Ordering::Equal => Kind::Fixed,
+            Ordering::Greater => Kind::Trim,
         }
     }
 
@@ -89,10 +90,10 @@ impl fmt::Display for Kind {
     ghost output = { λ k. Some (kind_text k) };
 
     fn fmt<W: fmt::Write>(&self, f: &mut fmt::Formatter<W>) -> fmt::Result {
-        match self {
-            Kind::Spread => write!(f, "spread"),
-            Kind::Trim => write!(f, "trim"),
-            Kind::Fixed => write!(f, "fixed"),
-        }
+        f.write_str(match self {
+            Kind::Spread => "spread",
+            Kind::Trim => "trim",
+            Kind::Fixed => "fixed",
+        })
     }
 }

@@ -4,8 +4,11 @@
 mod arithmetic;
 mod classes;
 mod directed;
+mod limited;
+mod numbers;
 mod refusals;
 
 pub use classes::Class;
 pub use directed::{Interval, Kind, in_limit};
-pub use refusals::Refusal;
+pub use limited::Limited;
+pub use refusals::{NoSuchRefusal, Refusal};

@@ -1,6 +1,6 @@
 // Why a call is refused. Each refusal has a number, and a refused call changes nothing.
 ghost use Rattle.std.specs.Prelude.{◌≡◌, Some};
-ghost use Rattle.interval.specs.Refusals.{number_of, refusal_of, Numbered, text_of};
+ghost use Rattle.interval.specs.Refusals.{number_of, Numbered, text_of};
 
 use std::fmt;
 
@@ -12,25 +12,32 @@ pub enum Refusal {
     PartsFull = 6,
 }
 
-impl Refusal {
-    // The number that stands for the refusal in docs/refusals.md.
-    pub fn number(self) -> u8
-        ensures { result ≡ number_of self }
-    {
-        self as u8
-    }
+// A number that no refusal has.
+#[derive(Clone, Copy, PartialEq, Eq, Debug)]
+pub struct NoSuchRefusal(pub u8);
 
-    // The refusal that has this number.
-    pub fn numbered(n: u8) -> Option<Refusal>
-        ensures value { result ≡ refusal_of n }
-        ensures tells { Numbered n result }
-    {
-        match n {
-            2 => Some(Refusal::NoSuchPlace),
-            3 => Some(Refusal::OutsideLimit),
-            5 => Some(Refusal::NotKept),
-            6 => Some(Refusal::PartsFull),
-            _ => None,
+// The number that stands for the refusal in docs/refusals.md.
+impl From<Refusal> for u8 {
+    ghost from_gives = { λ e n. n ≡ number_of e };
+
+    fn from(refusal: Refusal) -> u8 {
+        refusal as u8
+    }
+}
+
+// The refusal that has this number.
+impl TryFrom<u8> for Refusal {
+    type Error = NoSuchRefusal;
+
+    ghost try_from_gives = { Numbered };
+
+    fn try_from(number: u8) -> Result<Refusal, NoSuchRefusal> {
+        match number {
+            2 => Ok(Refusal::NoSuchPlace),
+            3 => Ok(Refusal::OutsideLimit),
+            5 => Ok(Refusal::NotKept),
+            6 => Ok(Refusal::PartsFull),
+            _ => Err(NoSuchRefusal(number)),
         }
     }
 }
@@ -39,11 +46,11 @@ impl fmt::Display for Refusal {
     ghost output = { λ e. Some (text_of e) };
 
     fn fmt<W: fmt::Write>(&self, f: &mut fmt::Formatter<W>) -> fmt::Result {
-        match self {
-            Refusal::NoSuchPlace => write!(f, "there is no such row or column"),
-            Refusal::OutsideLimit => write!(f, "a number is outside its limit"),
-            Refusal::NotKept => write!(f, "the banded sheet does not keep that cell"),
-            Refusal::PartsFull => write!(f, "the parts sheet is full"),
-        }
+        f.write_str(match self {
+            Refusal::NoSuchPlace => "there is no such row or column",
+            Refusal::OutsideLimit => "a number is outside its limit",
+            Refusal::NotKept => "the banded sheet does not keep that cell",
+            Refusal::PartsFull => "the parts sheet is full",
+        })
     }
 }

@@ -1,1 +1,1 @@
-pub mod Below
+pub mod Every

@@ -2,3 +2,4 @@ pub mod Reading
 pub mod Faults
 pub mod Writing
 pub mod Comparison
+pub mod Counts

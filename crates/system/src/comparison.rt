@@ -8,25 +8,16 @@ use crate::reading::System;
 pub fn same<A: System, B: System>(a: &A, b: &B) -> bool
     ensures { Decides result (Same (A.System.meaning a.now) (B.System.meaning b.now)) }
 {
-    if a.rows() != b.rows() || a.columns() != b.columns() {
-        return false;
-    }
-    for row in 0..a.rows() {
-        if !same_row(a, b, row) {
-            return false;
-        }
-    }
-    true
+    a.rows() == b.rows()
+        && a.columns() == b.columns()
+        && (0..a.rows()).all(|row| same_row(a, b, row))
 }
 
 fn same_row<A: System, B: System>(a: &A, b: &B, row: usize) -> bool
-    requires { (row < (A.System.meaning a.now).rows) × (((A.System.meaning a.now).rows ≡ (B.System.meaning b.now).rows) × ((A.System.meaning a.now).columns ≡ (B.System.meaning b.now).columns)) }
+    requires place { row < (A.System.meaning a.now).rows }
+    requires rows { (A.System.meaning a.now).rows ≡ (B.System.meaning b.now).rows }
+    requires columns { (A.System.meaning a.now).columns ≡ (B.System.meaning b.now).columns }
     ensures { Decides result (SameRow (A.System.meaning a.now) (B.System.meaning b.now) row) }
 {
-    for column in 0..a.columns() {
-        if a.cell(row, column) != b.cell(row, column) {
-            return false;
-        }
-    }
-    true
+    (0..a.columns()).all(|column| a.cell(row, column) == b.cell(row, column))
 }

@@ -21,7 +21,7 @@ impl PutFault {
         ensures { result ≡ fault_at (number_of refusal) row column }
     {
         PutFault {
-            number: refusal.number(),
+            number: refusal.into(),
             layer: 0,
             row,
             column,
@@ -44,9 +44,9 @@ impl fmt::Display for PutFault {
 
     fn fmt<W: fmt::Write>(&self, f: &mut fmt::Formatter<W>) -> fmt::Result {
         let (layer, row, column) = (self.layer, self.row, self.column);
-        match Refusal::numbered(self.number) {
-            Some(refusal) => write!(f, "{refusal} (layer {layer}, row {row}, column {column})"),
-            None => write!(f, "layer {layer}, row {row}, column {column}"),
+        match Refusal::try_from(self.number) {
+            Ok(refusal) => write!(f, "{refusal} (layer {layer}, row {row}, column {column})"),
+            Err(_) => write!(f, "layer {layer}, row {row}, column {column}"),
         }
     }
 }

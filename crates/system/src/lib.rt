@@ -2,11 +2,16 @@
 #![tactic(auto)]
 
 mod comparison;
+mod counts;
 mod faults;
+mod places;
 mod reading;
 mod writing;
 
 pub use comparison::same;
+pub use counts::Counts;
+pub use counts::ops::MAX_COUNT;
 pub use faults::PutFault;
-pub use reading::{MAX_COUNT, MAX_HELD, System};
+pub use places::Place;
+pub use reading::{MAX_HELD, System};
 pub use writing::Sheet;

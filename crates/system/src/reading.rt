@@ -5,9 +5,7 @@ ghost use Rattle.system.specs.Reading.{Model, Bounded, has_place, has_column};
 
 use interval::{Interval, Refusal};
 
-// The largest count of rows and of columns, and the largest held number in size.
-pub const MAX_COUNT: usize = 64;
-
+// The largest held number in size.
 pub const MAX_HELD: u64 = 1000;
 
 // Rows and columns are numbered from 0. Code over this trait knows of an implementation what `meaning` says, and no more.
