@@ -1,4 +1,3 @@
-pub mod Filled
 pub mod Slotted
 pub mod Counting
 pub mod Standing

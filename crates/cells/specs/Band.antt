@@ -1,11 +1,10 @@
 -- What a band keeps, holds and refuses.
-use Rattle.std.specs.Prelude.{ℕ, ◌+◌, ◌-◌, ◌*◌, Bool, cond, ◌&&◌, ◌||◌, vec_items, Option, ◌==◌, nat_le, slice_index_or}
+use Rattle.std.specs.Prelude.{ℕ, ◌+◌, ◌-◌, ◌*◌, Bool, cond, ◌&&◌, ◌||◌, vec_items, Option, ◌==◌, nat_le}
 use Rattle.interval.specs.declared.directed.Interval.{Interval}
 use Rattle.interval.specs.Directed.{nought}
 use Rattle.interval.specs.Refusals.{unless}
-use Rattle.system.specs.Reading.{with_value}
 use Rattle.cells.specs.declared.band.Band.{Band}
-use Rattle.cells.specs.Keeping.{Rule}
+use Rattle.cells.specs.Keeping.{Rule, slot_cell}
 
 -- column minus row is from −width to width, or the column is the last
 abbrev pub in_band : (width last r c : ℕ) → Bool
@@ -19,7 +18,7 @@ abbrev pub band_slot : (last r c : ℕ) → ℕ
 band_slot last r c = r * 18 + cond (c == last) 17 (c + 8 - r)
 
 abbrev pub band_cell : Band → ℕ → ℕ → Interval
-band_cell b r c = cond (keeps b r c) (slice_index_or (vec_items b.list.cells) (band_slot b.last r c) nought) nought
+band_cell b r c = cond (keeps b r c) (slot_cell (vec_items b.cells) (band_slot b.last r c)) nought
 
 -- a band of this width and last column takes what is put where it keeps the place
 abbrev pub band_rule : (width last : ℕ) → Rule
@@ -39,7 +38,3 @@ banding b = record { width = b.width; last = b.last; cell = band_cell b }
 
 abbrev pub blank_band : (width last : ℕ) → Banding
 blank_band width last = record { width = width; last = last; cell = λ _ _. nought }
-
--- the same band but for one cell
-abbrev pub with_cell_at : ℕ → ℕ → Interval → Banding → Banding
-with_cell_at r c v b = record { width = b.width; last = b.last; cell = with_value r c v b.cell }

@@ -1,6 +1,8 @@
 -- What keeps cells: how far its cells reach, and its rule.
-use Rattle.std.specs.Prelude.{ℕ, Option}
+use Rattle.std.specs.Prelude.{ℕ, List, Option, refl, slice_index_or}
 use Rattle.interval.specs.declared.directed.Interval.{Interval}
+use Rattle.interval.specs.declared.limited.Limited.{Limited}
+use Rattle.interval.specs.Directed.{nought}
 
 -- no end of a cell is larger in size
 abbrev pub bottom_reach : ℕ
@@ -9,3 +11,10 @@ bottom_reach = 100000
 -- the number with which a value within the reach is refused, by what the cells hold
 abbrev pub Rule : Type 0
 Rule = (ℕ → ℕ → Interval) → ℕ → ℕ → Interval → Option ℕ
+
+-- the interval in a slot of a list
+abbrev pub blank : Limited bottom_reach
+blank = record { cell = nought; near = refl }
+
+abbrev pub slot_cell : List (Limited bottom_reach) → ℕ → Interval
+slot_cell xs k = (slice_index_or xs k blank).cell

@@ -1,5 +1,4 @@
 pub mod Keeping
-pub mod Lists
 pub mod Grid
 pub mod Band
 pub mod Slots

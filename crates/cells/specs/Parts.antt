@@ -4,10 +4,10 @@ use Rattle.interval.specs.declared.directed.Interval.{Interval}
 use Rattle.interval.specs.Refusals.{unless}
 use Rattle.cells.specs.declared.parts.PartTable.{PartTable}
 use Rattle.cells.specs.Keeping.{Rule}
-use Rattle.cells.specs.Slots.{is_nought, empty, cell_in}
+use Rattle.cells.specs.Slots.{is_nought, empty, is_empty, cell_in}
 
 abbrev pub table_cell : PartTable → ℕ → ℕ → Interval
-table_cell t = cell_in t.slots.parts
+table_cell t = cell_in t.parts
 
 -- f 0 + .. + f (n - 1)
 unfoldable pub total : (n : ℕ) → (ℕ → ℕ) → ℕ
@@ -24,5 +24,5 @@ parts_rule cell r c v = unless (is_nought v || (not (is_nought (cell r c)) || na
 
 -- an empty slot of a table in which fewer than 128 parts stand, or nothing where 128 stand
 abbrev pub Room : PartTable → Option ℕ → Type 0
-Room t (Some i) = (i < 128) × (i < length t.slots.parts) × (is_nought (slice_index_or t.slots.parts i empty).cell ≡ true) × (parts_in (table_cell t) < 128)
+Room t (Some i) = (i < 128) × (i < length t.parts) × (is_empty (slice_index_or t.parts i empty) ≡ true) × (parts_in (table_cell t) < 128)
 Room t None = parts_in (table_cell t) ≡ 128

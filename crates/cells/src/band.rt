@@ -1,7 +1,7 @@
 // The cells of a band along the diagonal, and of the last column.
 ghost use Rattle.std.specs.Prelude.{◌≡◌, ◌≤◌, vec_len};
 
-use crate::lists::CellList;
+use crate::keeping::InReach;
 
 pub mod ops;
 
@@ -10,7 +10,7 @@ pub mod ops;
 pub struct Band {
     width: usize,
     last: usize,
-    list: CellList,
+    cells: Vec<InReach>,
     ghost narrow: { width ≤ 8 },
-    ghost all: { vec_len list.cells ≡ 1152 },
+    ghost all: { vec_len cells ≡ 1152 },
 }

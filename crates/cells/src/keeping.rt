@@ -6,12 +6,20 @@ ghost use Rattle.interval.specs.Refusals.{Changes};
 ghost use Rattle.system.specs.Reading.{with_value};
 ghost use Rattle.cells.specs.Keeping.{bottom_reach, Rule};
 
-use crate::places::Place;
-use crate::values::InReach;
-use interval::{Interval, Refusal};
+use interval::{Interval, Limited, Refusal};
+use system::Place;
 
-// The reach of everything that keeps cells.
+// The reach of everything that keeps cells, and a value within it.
 pub const REACH: u64 = 100_000;
+
+pub type InReach = Limited<REACH>;
+
+pub(crate) const NOUGHT: Interval = Interval {
+    first: 0,
+    second: 0,
+};
+
+pub(crate) const BLANK: InReach = Limited { cell: NOUGHT };
 
 // `cell` is what each place holds, and `rule` the number with which a value within the reach is refused, by what the places
 // hold.

@@ -4,14 +4,9 @@
 mod band;
 mod grid;
 mod keeping;
-mod lists;
 mod parts;
-mod places;
-mod values;
 
 pub use band::Band;
 pub use grid::Grid;
-pub use keeping::{Cells, REACH};
+pub use keeping::{Cells, InReach, REACH};
 pub use parts::PartTable;
-pub use places::Place;
-pub use values::InReach;

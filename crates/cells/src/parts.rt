@@ -1,17 +1,15 @@
-// A table of up to 128 parts, each a row, a column and an interval.
+// A table of up to 128 parts, each a place and an interval.
 ghost use Rattle.std.specs.Prelude.{◌≡◌, true};
-ghost use Rattle.cells.specs.Slots.{one_part, all_near, all_inside};
+ghost use Rattle.cells.specs.Slots.{one_part};
 
-use slots::Slots;
+use part::{Part, SLOTS};
 
 pub mod ops;
-mod slots;
+mod part;
 
-// No place has two parts.
+// The slots of the parts, one after the other. No place has two parts.
 #[derive(Drop)]
 pub struct PartTable {
-    slots: Slots,
-    ghost apart: { one_part slots.parts ≡ true },
-    ghost near: { all_near slots.parts ≡ true },
-    ghost inside: { all_inside slots.parts ≡ true },
+    parts: [Part; SLOTS],
+    ghost apart: { one_part parts ≡ true },
 }

@@ -3,3 +3,4 @@ pub mod Faults
 pub mod Writing
 pub mod Comparison
 pub mod Counts
+pub mod Places

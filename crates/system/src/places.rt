@@ -1,7 +1,7 @@
 // A place on a sheet: a row and a column, both below 64.
 ghost use Rattle.std.specs.Prelude.{◌<◌};
 
-#[derive(Clone, Copy)]
+#[derive(Clone, Copy, PartialEq, Eq, Debug)]
 pub struct Place {
     pub row: usize,
     pub column: usize,

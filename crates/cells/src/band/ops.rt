@@ -1,18 +1,14 @@
 // What a band takes and gives.
 ghost use Rattle.std.specs.Prelude.{◌≡◌, true, IfOk};
-ghost use Rattle.interval.specs.Directed.{within as within_of};
 ghost use Rattle.interval.specs.Refusals.{Changes};
-ghost use Rattle.cells.specs.Keeping.{bottom_reach};
-ghost use Rattle.cells.specs.Band.{keeps, band_slot, band_cell, band_rule, banding, blank_band, with_cell_at, width_refusal};
+ghost use Rattle.cells.specs.Band.{keeps, band_slot, band_cell, band_rule, banding, blank_band, width_refusal};
 ghost use Rattle.std.proofs.Common.{rules};
 
 use crate::band::Band;
-use crate::keeping::Cells;
-use crate::lists::{CellList, NOUGHT};
-use crate::places::Place;
-use crate::values::InReach;
+use crate::keeping::{BLANK, Cells, InReach, NOUGHT};
 use interval::{Interval, Refusal};
 use std::alloc::{AllocError, Global};
+use system::Place;
 
 const MAX_WIDTH: usize = 8;
 
@@ -27,11 +23,10 @@ impl Band {
     pub fn new(heap: Global) -> Result<Band, AllocError>
         ensures { IfOk result (λ b. banding b ≡ blank_band 0 0) }
     {
-        let list = CellList::new(heap, SIZE)?;
         Ok(Band {
             width: 0,
             last: 0,
-            list,
+            cells: vec![in heap; BLANK; SIZE]?,
         })
     }
 
@@ -44,7 +39,7 @@ impl Band {
         }
         self.width = width;
         self.last = last;
-        self.list.clear();
+        self.cells.fill(BLANK);
         Ok(())
     }
 
@@ -66,14 +61,6 @@ impl Band {
         };
         place.row * STRIDE + offset
     }
-
-    fn write(&mut self, place: Place, cell: Interval)
-        requires { (keeps self.old place.row place.column ≡ true) × (within_of bottom_reach cell ≡ true) }
-        ensures { banding self.new ≡ with_cell_at place.row place.column cell (banding self.old) }
-    {
-        let slot = self.slot(place);
-        self.list.set(slot, cell);
-    }
 }
 
 impl Cells for Band {
@@ -85,7 +72,7 @@ impl Cells for Band {
 
     fn get(&self, place: Place) -> Interval {
         if self.keeps(place) {
-            self.list.get(self.slot(place))
+            self.cells[self.slot(place)].cell
         } else {
             NOUGHT
         }
@@ -95,7 +82,8 @@ impl Cells for Band {
         if !self.keeps(place) {
             return Err(Refusal::NotKept);
         }
-        self.write(place, value.cell);
+        let slot = self.slot(place);
+        self.cells[slot] = value;
         Ok(())
     }
 }

@@ -1,16 +1,15 @@
 // What a table of parts takes and gives.
 ghost use Rattle.std.specs.Prelude.{◌≡◌};
 ghost use Rattle.interval.specs.Directed.{nought};
+ghost use Rattle.cells.specs.Slots.{Found};
 ghost use Rattle.cells.specs.Parts.{table_cell, parts_rule, Room};
 ghost use Rattle.cells.specs.Nearness.{near_cell};
 
-use crate::keeping::Cells;
-use crate::lists::NOUGHT;
+use crate::keeping::{Cells, InReach, NOUGHT};
 use crate::parts::PartTable;
-use crate::parts::slots::{Part, Slots, is_nought};
-use crate::places::Place;
-use crate::values::InReach;
+use crate::parts::part::{EMPTY, Part, SLOTS};
 use interval::{Interval, Refusal};
+use system::Place;
 
 impl PartTable {
     // A table without parts.
@@ -18,7 +17,7 @@ impl PartTable {
         ensures { table_cell result ≡ (λ _ _. nought) }
     {
         PartTable {
-            slots: Slots::new(),
+            parts: [EMPTY; SLOTS],
         }
     }
 
@@ -26,14 +25,21 @@ impl PartTable {
     pub fn clear(&mut self)
         ensures { table_cell self.new ≡ (λ _ _. nought) }
     {
-        self.slots = Slots::new();
+        *self = PartTable::new();
+    }
+
+    // The slot of the part that stands at a place.
+    fn find(&self, place: Place) -> Option<usize>
+        ensures { Found self.now.parts place.row place.column result }
+    {
+        self.parts.iter().position(|part| part.stands_at(place))
     }
 
     // An empty slot, as long as fewer than 128 parts stand.
     fn room(&self) -> Option<usize>
         ensures { Room self.now result }
     {
-        self.slots.vacant()
+        self.parts.iter().position(|part| part.is_empty())
     }
 }
 
@@ -42,29 +48,26 @@ impl Cells for PartTable {
 
     ghost rule = { λ _. parts_rule };
 
-    ghost near = { λ s r c. near_cell s.slots.parts r c s.near };
+    ghost near = { λ t. near_cell t.parts };
 
     fn get(&self, place: Place) -> Interval {
-        match self.slots.find(place.row, place.column) {
-            Some(slot) => self.slots.parts[slot].cell,
+        match self.find(place) {
+            Some(slot) => self.parts[slot].value.cell,
             None => NOUGHT,
         }
     }
 
     // An interval (0, 0) takes the part off, since it empties the slot.
     fn put(&mut self, place: Place, value: InReach) -> Result<(), Refusal> {
-        let (row, column, cell) = (place.row, place.column, value.cell);
-        if let Some(slot) = self.slots.find(row, column) {
-            self.slots.rewrite(slot, cell);
+        if let Some(slot) = self.find(place) {
+            self.parts[slot].value = value;
             return Ok(());
         }
-        if is_nought(cell) {
+        if value.cell == NOUGHT {
             return Ok(());
         }
-        let Some(slot) = self.room() else {
-            return Err(Refusal::PartsFull);
-        };
-        self.slots.fill(slot, Part { row, column, cell });
+        let slot = self.room().ok_or(Refusal::PartsFull)?;
+        self.parts[slot] = Part { place, value };
         Ok(())
     }
 }

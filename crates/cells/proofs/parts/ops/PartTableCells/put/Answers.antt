@@ -1,23 +1,19 @@
-use Rattle.std.proofs.Common.{refl}
+use Rattle.std.proofs.Common.{rules}
 use Rattle.cells.proofs.Standing.{by_rewrite, by_fill}
 use Rattle.cells.proofs.parts.ops.PartTableCells.put.Goals as goal
 
 pub invariant_of-self : goal.invariant_of-self
-invariant_of-self c =
-    let new = by_rewrite c.args.self.now c.args.place _ _ _ c.args.value.near c.in-Some.ensures c.rewrite.ensures in
-    record { apart = new.apart; near = new.near; inside = new.inside }
+invariant_of-self c = record { apart = (by_rewrite c.args.place c.args.self.now c.in-Some.slot _ c.args.value (search rules) c.in-Some.ensures).apart }
 
-pub returns-in-Some : goal.returns-in-Some
-returns-in-Some c =
-    let new = by_rewrite c.args.self.now c.args.place _ _ _ c.args.value.near c.in-Some.ensures c.rewrite.ensures in
-    record { changes = (new.accepted, new.cells_are); steady = refl }
+pub returns-in-Some-clause-changes : goal.returns-in-Some-clause-changes
+returns-in-Some-clause-changes c =
+    let new = by_rewrite c.args.place c.args.self.now c.in-Some.slot _ c.args.value (search rules) c.in-Some.ensures in
+    (new.accepted, new.cells_are)
 
 pub invariant_of-self-2 : goal.invariant_of-self-2
-invariant_of-self-2 c =
-    let new = by_fill c.args.self.now c.args.place _ _ _ c.args.value.near c.in_default.ensures c.in-Some-room.ensures c.fill.ensures in
-    record { apart = new.apart; near = new.near; inside = new.inside }
+invariant_of-self-2 c = record { apart = (by_fill c.args.place c.args.self.now c.in_ok-slot.slot c.args.value c.in_default.ensures (search rules)).apart }
 
-pub returns : goal.returns
-returns c =
-    let new = by_fill c.args.self.now c.args.place _ _ _ c.args.value.near c.in_default.ensures c.in-Some-room.ensures c.fill.ensures in
-    record { changes = (new.accepted, new.cells_are); steady = refl }
+pub returns-clause-changes : goal.returns-clause-changes
+returns-clause-changes c =
+    let new = by_fill c.args.place c.args.self.now c.in_ok-slot.slot c.args.value c.in_default.ensures (search rules) in
+    (new.accepted, new.cells_are)

@@ -1,7 +1,0 @@
-use Rattle.std.proofs.Common.{◌≡◌, ◌+◌, ◌<◌, length, drop}
-use Rattle.cells.specs.Slots.{standing}
-use Rattle.cells.proofs.parts.slots.Slots.vacant.Given as goal
-
--- the length of the array is known from the first turn on, where a slot is read
-abbrev pub invariant-loop-i : goal.invariant-loop-i
-invariant-loop-i l = (0 < l.i → length l.self.parts ≡ 128) × (standing l.self.parts ≡ l.i + standing (drop l.i l.self.parts))
