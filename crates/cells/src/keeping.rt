@@ -1,7 +1,7 @@
 // What keeps cells.
 ghost use Rattle.std.specs.Prelude.{◌≡◌, ℕ};
 ghost use Rattle.interval.specs.declared.directed.Interval.{Interval as Kept};
-ghost use Rattle.interval.specs.Directed.{Within};
+ghost use Rattle.interval.specs.Directed.{nought, Within};
 ghost use Rattle.interval.specs.Refusals.{Changes};
 ghost use Rattle.system.specs.Reading.{with_value};
 ghost use Rattle.cells.specs.Keeping.{bottom_reach, Rule};
@@ -36,4 +36,12 @@ pub trait Cells {
         ensures steady { rule self.new ≡ rule self.old };
 
     ghost near: { (s : Self) (r c : ℕ) → Within bottom_reach (cell s r c) };
+}
+
+// Cells that keep nothing but what is put: they are cleared by themselves, whatever the counts.
+pub trait Clear: Cells {
+    // Makes every cell (0, 0).
+    fn clear(&mut self)
+        ensures cells { Self.Cells.cell self.new ≡ (λ _ _. nought) }
+        ensures steady { Self.Cells.rule self.new ≡ Self.Cells.rule self.old };
 }

@@ -8,5 +8,5 @@ mod parts;
 
 pub use band::Band;
 pub use grid::Grid;
-pub use keeping::{Cells, InReach, REACH};
+pub use keeping::{Cells, Clear, InReach, REACH};
 pub use parts::PartTable;

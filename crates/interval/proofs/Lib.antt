@@ -2,3 +2,4 @@ pub mod Whole
 pub mod Signs
 pub mod Parts
 pub mod Laws
+pub mod Changing

@@ -8,7 +8,7 @@ ghost use Rattle.interval.specs.Examples.{Examples};
 
 use crate::classes::Class;
 use crate::directed::Interval;
-use crate::numbers::Number;
+use crate::operands::Operand;
 use crate::refusals::Refusal;
 
 impl Interval {
@@ -16,8 +16,8 @@ impl Interval {
     pub fn opposite(self) -> Result<(i64, i64), Refusal>
         ensures { Answers (unless (within_of limit self) 3) (ends (opposite_of self)) result }
     {
-        let (a, b) = self.numbers()?;
-        Ok((-b, -a))
+        let (a, b) = self.operands()?;
+        Ok(((-b).value, (-a).value))
     }
 
     #[tactic(auto, using(crate::proofs::Laws::sum_laws))]
@@ -25,8 +25,8 @@ impl Interval {
         ensures value { Answers (unless (within_of limit self && within_of limit other) 3) (ends (sum_of self other)) result }
         ensures laws { SumLaws }
     {
-        let (a, b) = self.numbers()?;
-        let (c, d) = other.numbers()?;
+        let (a, b) = self.operands()?;
+        let (c, d) = other.operands()?;
         Ok((a + c, b + d))
     }
 
@@ -36,8 +36,8 @@ impl Interval {
         ensures value { Answers (unless (in_limit_of limit t && within_of limit self) 3) (ends (multiple_of t self)) result }
         ensures laws { MultipleLaws }
     {
-        let factor = Number::try_from(t)?;
-        let (a, b) = self.numbers()?;
+        let factor = Operand::try_from(t)?;
+        let (a, b) = self.operands()?;
         Ok(if t < 0 {
             (b * factor, a * factor)
         } else {
@@ -52,16 +52,16 @@ impl Interval {
         ensures examples { Examples }
     {
         let classes = (self.class(), other.class());
-        Ok(product_by(classes, self.numbers()?, other.numbers()?))
+        Ok(product_by(classes, self.operands()?, other.operands()?))
     }
 
     // Both ends, where they are within the limit.
-    fn numbers(self) -> Result<(Number, Number), Refusal>
+    fn operands(self) -> Result<(Operand, Operand), Refusal>
         ensures { Gives (unless (within_of limit self) 3) (λ n. (n.0.value ≡ self.first) × (n.1.value ≡ self.second)) result }
     {
         Ok((
-            Number::try_from(self.first)?,
-            Number::try_from(self.second)?,
+            Operand::try_from(self.first)?,
+            Operand::try_from(self.second)?,
         ))
     }
 }
@@ -69,8 +69,8 @@ impl Interval {
 // The sixteen cases of the two classes.
 fn product_by(
     classes: (Class, Class),
-    left: (Number, Number),
-    right: (Number, Number),
+    left: (Operand, Operand),
+    right: (Operand, Operand),
 ) -> (i64, i64)
     ensures { result ≡ ends (by_class classes.0 classes.1 left.0.value left.1.value right.0.value right.1.value) }
 {

@@ -6,9 +6,11 @@ mod classes;
 mod directed;
 mod limited;
 mod numbers;
+mod operands;
 mod refusals;
 
 pub use classes::Class;
 pub use directed::{Interval, Kind, in_limit};
 pub use limited::Limited;
+pub use numbers::Number;
 pub use refusals::{NoSuchRefusal, Refusal};

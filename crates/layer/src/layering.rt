@@ -2,12 +2,13 @@
 ghost use Rattle.std.specs.Prelude.{◌≡◌, Result};
 ghost use Rattle.layer.specs.declared.settings.SettingFault.{SettingFault as Fault};
 ghost use Rattle.layer.specs.Views.{Extent, View, Lawful};
-ghost use Rattle.layer.specs.Shapes.{extent, Lowers};
+ghost use Rattle.interval.specs.Refusals.{Gives};
+ghost use Rattle.layer.specs.Shapes.{extent};
 
 use crate::settings::SettingFault;
 use crate::shapes::Shape;
-use crate::values::InLimit;
 use interval::{Interval, Refusal};
+use system::InLimit;
 
 // A value of such a type is the settings of a layer. `view` is what a layer with them shows of a system below it, by that
 // system's counts and reach; settings that don't fit these act as they do at first.
@@ -21,9 +22,13 @@ pub trait Layer {
     fn row(&self, below: Shape, row: usize) -> usize
         ensures { result ≡ (view self.now (extent below)).row row };
 
-    // The column below that a column stands for, and whether a number at which that is held is shown negated.
-    fn column(&self, below: Shape, column: usize) -> (usize, bool)
-        ensures { result ≡ ((view self.now (extent below)).column column, (view self.now (extent below)).negated column) };
+    // The column below that a column stands for.
+    fn column(&self, below: Shape, column: usize) -> usize
+        ensures { result ≡ (view self.now (extent below)).column column };
+
+    // Whether a column shows a held number negated.
+    fn negated(&self, below: Shape, column: usize) -> bool
+        ensures { result ≡ (view self.now (extent below)).negated column };
 
     // What a row and a column show of the interval below.
     fn shown(&self, below: Shape, row: usize, column: usize, value: InLimit) -> Interval
@@ -37,7 +42,7 @@ pub trait Layer {
         column: usize,
         value: InLimit,
     ) -> Result<InLimit, Refusal>
-        ensures { Lowers ((view self.now (extent below)).refusal row column value.cell) ((view self.now (extent below)).lowered row column value.cell) result };
+        ensures { Gives ((view self.now (extent below)).refusal row column value.cell) (λ y. y.cell ≡ (view self.now (extent below)).lowered row column value.cell) result };
 
     ghost lawful: { (l : Self) (e : Extent) → Lawful e (view l e) };
 }

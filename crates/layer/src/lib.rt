@@ -4,9 +4,7 @@
 mod layering;
 mod settings;
 mod shapes;
-mod values;
 
 pub use layering::{Layer, Settable};
 pub use settings::SettingFault;
 pub use shapes::Shape;
-pub use values::InLimit;

@@ -1,11 +1,10 @@
 -- What a bottom means: what is read from it, and its own rule.
-use Rattle.std.specs.Prelude.{ℕ, Some, None, Option}
+use Rattle.std.specs.Prelude.{ℕ, Option}
 use Rattle.interval.specs.declared.directed.Interval.{Interval}
 use Rattle.interval.specs.Directed.{within}
 use Rattle.interval.specs.Refusals.{unless, or_else}
 use Rattle.cells.specs.Keeping.{bottom_reach, Rule}
-use Rattle.system.specs.declared.faults.PutFault.{PutFault}
-use Rattle.system.specs.Faults.{fault_at}
+use Rattle.system.specs.Faults.{fault_of}
 use Rattle.system.specs.Reading.{Model}
 use Rattle.system.specs.Writing.{first_refusal, State, state}
 use Rattle.sheets.specs.declared.bottom.Bottom.{Bottom}
@@ -29,11 +28,6 @@ bottom_of cell rule s = ruled (with_cells (cell s.cells) (frame_model s.frame)) 
 -- with which number it refuses a put: by the checks of every sheet, then by its reach, and then by its own rule
 abbrev pub put_refusal : Ruled → ℕ → ℕ → Interval → Option ℕ
 put_refusal b r c v = or_else (first_refusal b.model r c v) (or_else (unless (within bottom_reach v) 3) (b.rule b.model.cell r c v))
-
--- a refusal that arises here, as the fault of a put
-abbrev pub fault_of : Option ℕ → ℕ → ℕ → Option PutFault
-fault_of None r c = None
-fault_of (Some n) r c = Some (fault_at n r c)
 
 -- what it means as a sheet
 abbrev pub state_of : Ruled → State

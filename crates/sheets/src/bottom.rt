@@ -3,18 +3,44 @@ ghost use Rattle.std.specs.Prelude.{◌≡◌, Some, None};
 ghost use Rattle.interval.specs.Refusals.{Changes};
 ghost use Rattle.system.specs.Reading.{with_value};
 ghost use Rattle.system.specs.Writing.{Puts, hold_refusal, free_refusal, holding};
-ghost use Rattle.sheets.specs.Bottom.{bottom_of, put_refusal, state_of};
+ghost use Rattle.system.specs.Counts.{counts_refusal};
+ghost use Rattle.sheets.specs.Frame.{frame_model, blank};
+ghost use Rattle.sheets.specs.Bottom.{bottom_of, ruled, put_refusal, state_of};
 ghost use Rattle.std.proofs.Common.{rules};
 
 use crate::frame::Frame;
-use cells::{Cells, InReach, REACH};
+use cells::{Cells, Clear, InReach, REACH};
 use interval::{Interval, Refusal};
-use system::{PutFault, Sheet, System};
+use system::{Counts, PutFault, Sheet, System};
 
 #[derive(Drop)]
 pub struct Bottom<C> {
     pub(crate) frame: Frame,
     pub(crate) cells: C,
+}
+
+impl<C> Bottom<C> {
+    // One row and one column, which is free.
+    pub(crate) fn over(cells: C) -> Bottom<C>
+        ensures frame { frame_model result.frame ≡ blank 1 1 }
+        ensures cells { result.cells ≡ cells }
+    {
+        Bottom {
+            frame: Frame::all_free(Counts::ONE),
+            cells,
+        }
+    }
+}
+
+impl<C: Clear> Bottom<C> {
+    // Sets the counts, makes every cell (0, 0), and frees every column.
+    pub fn size(&mut self, rows: usize, columns: usize) -> Result<(), Refusal>
+        ensures { Changes (counts_refusal rows columns) (λ b. ruled (blank rows columns) b.rule) (bottom_of C.Cells.cell C.Cells.rule self.old) (bottom_of C.Cells.cell C.Cells.rule self.new) result }
+    {
+        self.frame = Frame::sized(rows, columns)?;
+        self.cells.clear();
+        Ok(())
+    }
 }
 
 impl<C: Cells> Bottom<C> {
@@ -26,10 +52,7 @@ impl<C: Cells> Bottom<C> {
         ensures frame { self.new.frame ≡ self.old.frame }
     {
         let place = self.frame.place(row, column)?;
-        if !value.within(REACH) {
-            return Err(Refusal::OutsideLimit);
-        }
-        self.cells.put(place, InReach { cell: value })
+        self.cells.put(place, InReach::try_from(value)?)
     }
 }
 
@@ -39,11 +62,11 @@ impl<C: Cells> System for Bottom<C> {
     ghost bounded = { Prim.search rules };
 
     fn rows(&self) -> usize {
-        self.frame.rows()
+        self.frame.counts().rows
     }
 
     fn columns(&self) -> usize {
-        self.frame.columns()
+        self.frame.counts().columns
     }
 
     fn reach(&self) -> u64 {
@@ -70,25 +93,21 @@ impl<C: Cells> Sheet for Bottom<C> {
         ensures puts { Puts row column value (state_of (bottom_of C.Cells.cell C.Cells.rule self.old)) (state_of (bottom_of C.Cells.cell C.Cells.rule self.new)) result }
         ensures rule { (bottom_of C.Cells.cell C.Cells.rule self.new).rule ≡ (bottom_of C.Cells.cell C.Cells.rule self.old).rule }
     {
-        match self.store(row, column, value) {
-            Ok(()) => Ok(()),
-            Err(refusal) => Err(PutFault::at(refusal, row, column)),
-        }
+        self.store(row, column, value)
+            .map_err(|refusal| PutFault::at(refusal, row, column))
     }
 
     fn hold(&mut self, column: usize, number: i64) -> Result<(), Refusal>
         ensures changes { Changes (hold_refusal (bottom_of C.Cells.cell C.Cells.rule self.old).model column number) (holding column (Some number)) (state_of (bottom_of C.Cells.cell C.Cells.rule self.old)) (state_of (bottom_of C.Cells.cell C.Cells.rule self.new)) result }
         ensures rule { (bottom_of C.Cells.cell C.Cells.rule self.new).rule ≡ (bottom_of C.Cells.cell C.Cells.rule self.old).rule }
     {
-        self.frame.hold(column, number)?;
-        Ok(())
+        self.frame.hold(column, number)
     }
 
     fn free(&mut self, column: usize) -> Result<(), Refusal>
         ensures changes { Changes (free_refusal (bottom_of C.Cells.cell C.Cells.rule self.old).model column) (holding column None) (state_of (bottom_of C.Cells.cell C.Cells.rule self.old)) (state_of (bottom_of C.Cells.cell C.Cells.rule self.new)) result }
         ensures rule { (bottom_of C.Cells.cell C.Cells.rule self.new).rule ≡ (bottom_of C.Cells.cell C.Cells.rule self.old).rule }
     {
-        self.frame.free(column)?;
-        Ok(())
+        self.frame.free(column)
     }
 }

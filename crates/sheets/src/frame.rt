@@ -1,17 +1,70 @@
 // A sheet without its cells: its counts, and which columns are held.
-ghost use Rattle.std.specs.Prelude.{◌≡◌, ℕ, ◌≤◌, true, None, slice_index_or};
-ghost use Rattle.system.specs.Reading.{held_within};
+ghost use Rattle.std.specs.Prelude.{◌≡◌, Some, None};
+ghost use Rattle.interval.specs.Refusals.{Answers, Changes, Gives};
+ghost use Rattle.system.specs.Reading.{with_held};
+ghost use Rattle.system.specs.Writing.{hold_refusal, free_refusal};
+ghost use Rattle.system.specs.Counts.{counts_refusal};
+ghost use Rattle.sheets.specs.Frame.{frame_model, blank, Placed};
 
-pub mod ops;
+use interval::Refusal;
+use system::{Counts, Held, Place};
 
 #[derive(Drop)]
 pub struct Frame {
-    rows: usize,
-    columns: usize,
-    held: [Option<i64>; 64],
-    ghost some_rows: { 1 ≤ rows },
-    ghost few_rows: { rows ≤ 64 },
-    ghost some_columns: { 1 ≤ columns },
-    ghost few_columns: { columns ≤ 64 },
-    ghost numbers: { (k : ℕ) → held_within (slice_index_or held k None) ≡ true },
+    counts: Counts,
+    held: [Option<Held>; 64],
+}
+
+impl Frame {
+    // These counts, and every column free.
+    pub(crate) fn all_free(counts: Counts) -> Frame
+        ensures { frame_model result ≡ blank counts.rows counts.columns }
+    {
+        Frame {
+            counts,
+            held: [None; 64],
+        }
+    }
+
+    pub(crate) fn sized(rows: usize, columns: usize) -> Result<Frame, Refusal>
+        ensures { Gives (counts_refusal rows columns) (λ f. frame_model f ≡ blank rows columns) result }
+    {
+        Ok(Frame::all_free(Counts::new(rows, columns)?))
+    }
+
+    pub(crate) fn counts(&self) -> Counts
+        ensures rows { result.rows ≡ (frame_model self.now).rows }
+        ensures columns { result.columns ≡ (frame_model self.now).columns }
+    {
+        self.counts
+    }
+
+    pub(crate) fn place(&self, row: usize, column: usize) -> Result<Place, Refusal>
+        ensures { Placed (frame_model self.now) row column result }
+    {
+        self.counts.place(row, column)
+    }
+
+    pub(crate) fn held(&self, column: usize) -> Result<Option<i64>, Refusal>
+        ensures { Answers (free_refusal (frame_model self.now) column) ((frame_model self.now).held column) result }
+    {
+        let column = self.counts.column(column)?;
+        Ok(self.held[column].map(|number| number.value))
+    }
+
+    pub(crate) fn hold(&mut self, column: usize, number: i64) -> Result<(), Refusal>
+        ensures { Changes (hold_refusal (frame_model self.old) column number) (with_held column (Some number)) (frame_model self.old) (frame_model self.new) result }
+    {
+        let column = self.counts.column(column)?;
+        self.held[column] = Some(Held::try_from(number)?);
+        Ok(())
+    }
+
+    pub(crate) fn free(&mut self, column: usize) -> Result<(), Refusal>
+        ensures { Changes (free_refusal (frame_model self.old) column) (with_held column None) (frame_model self.old) (frame_model self.new) result }
+    {
+        let column = self.counts.column(column)?;
+        self.held[column] = None;
+        Ok(())
+    }
 }

@@ -13,5 +13,5 @@ pub use counts::Counts;
 pub use counts::ops::MAX_COUNT;
 pub use faults::PutFault;
 pub use places::Place;
-pub use reading::{MAX_HELD, System};
+pub use reading::{Held, InLimit, MAX_HELD, MAX_REACH, System};
 pub use writing::Sheet;

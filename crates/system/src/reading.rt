@@ -3,10 +3,17 @@ ghost use Rattle.std.specs.Prelude.{◌≡◌};
 ghost use Rattle.interval.specs.Refusals.{unless, Answers};
 ghost use Rattle.system.specs.Reading.{Model, Bounded, has_place, has_column};
 
-use interval::{Interval, Refusal};
+use interval::{Interval, Limited, Number, Refusal};
 
-// The largest held number in size.
+// The largest held number in size, and a number at which a column may be held.
 pub const MAX_HELD: u64 = 1000;
+
+pub type Held = Number<MAX_HELD>;
+
+// The largest reach, and a cell that some system may show.
+pub const MAX_REACH: u64 = 10_000_000;
+
+pub type InLimit = Limited<MAX_REACH>;
 
 // Rows and columns are numbered from 0. Code over this trait knows of an implementation what `meaning` says, and no more.
 pub trait System {

@@ -5,7 +5,7 @@ ghost use Rattle.cells.specs.Grid.{grid_slot, grid_cell, grid_rule};
 ghost use Rattle.std.proofs.Common.{rules};
 
 use crate::grid::Grid;
-use crate::keeping::{BLANK, Cells, InReach};
+use crate::keeping::{BLANK, Cells, Clear, InReach};
 use interval::{Interval, Refusal};
 use std::alloc::{AllocError, Global};
 use system::Place;
@@ -22,13 +22,6 @@ impl Grid {
         Ok(Grid {
             cells: vec![in heap; BLANK; SIZE]?,
         })
-    }
-
-    // Makes every cell (0, 0).
-    pub fn clear(&mut self)
-        ensures { grid_cell self.new ≡ (λ _ _. nought) }
-    {
-        self.cells.fill(BLANK);
     }
 }
 
@@ -52,5 +45,11 @@ impl Cells for Grid {
     fn put(&mut self, place: Place, value: InReach) -> Result<(), Refusal> {
         self.cells[slot(place)] = value;
         Ok(())
+    }
+}
+
+impl Clear for Grid {
+    fn clear(&mut self) {
+        self.cells.fill(BLANK);
     }
 }

@@ -5,7 +5,7 @@ ghost use Rattle.cells.specs.Slots.{Found};
 ghost use Rattle.cells.specs.Parts.{table_cell, parts_rule, Room};
 ghost use Rattle.cells.specs.Nearness.{near_cell};
 
-use crate::keeping::{Cells, InReach, NOUGHT};
+use crate::keeping::{Cells, Clear, InReach, NOUGHT};
 use crate::parts::PartTable;
 use crate::parts::part::{EMPTY, Part, SLOTS};
 use interval::{Interval, Refusal};
@@ -19,13 +19,6 @@ impl PartTable {
         PartTable {
             parts: [EMPTY; SLOTS],
         }
-    }
-
-    // Takes every part off.
-    pub fn clear(&mut self)
-        ensures { table_cell self.new ≡ (λ _ _. nought) }
-    {
-        *self = PartTable::new();
     }
 
     // The slot of the part that stands at a place.
@@ -69,5 +62,12 @@ impl Cells for PartTable {
         let slot = self.room().ok_or(Refusal::PartsFull)?;
         self.parts[slot] = Part { place, value };
         Ok(())
+    }
+}
+
+impl Clear for PartTable {
+    // Takes every part off.
+    fn clear(&mut self) {
+        *self = PartTable::new();
     }
 }

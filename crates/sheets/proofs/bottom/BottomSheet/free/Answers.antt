@@ -1,9 +1,11 @@
-use Rattle.std.proofs.Common.{refl, ap, rules}
-use Rattle.system.specs.Reading.{Model}
-use Rattle.sheets.specs.Bottom.{ruled, with_cells, state_of}
+use Rattle.std.proofs.Common.{None, refl}
+use Rattle.interval.proofs.Changing.{changes_in}
+use Rattle.system.specs.Reading.{with_held}
+use Rattle.system.specs.Writing.{holding}
+use Rattle.sheets.proofs.Held.{framed}
 use Rattle.sheets.proofs.bottom.BottomSheet.free.Goals as goal
 
-pub returns : goal.returns
-returns g c =
+pub returns-clause-changes : goal.returns-clause-changes
+returns-clause-changes g c =
     let s = c.args.self.now in
-    record { changes = (search rules, ap (λ (o : Model). state_of (ruled (with_cells (g.C.Cells.cell s.cells) o) (g.C.Cells.rule s.cells))) c.in_ok-free.ensures.1); rule = refl }
+    changes_in (framed (g.C.Cells.cell s.cells) (g.C.Cells.rule s.cells)) _ (with_held c.args.column None) (holding c.args.column None) _ _ c.free.result (λ m. refl) c.free.ensures

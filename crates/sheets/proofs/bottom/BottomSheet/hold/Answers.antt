@@ -1,13 +1,17 @@
-use Rattle.std.proofs.Common.{Some, refl, ap, ◌∙◌, w64, rules}
+use Rattle.std.proofs.Common.{Some, refl, subst, w64}
 use Rattle.std.proofs.lemmas.Int.{to_z-of_z}
-use Rattle.system.specs.Reading.{Model, with_held}
+use Rattle.interval.specs.Refusals.{Changes}
+use Rattle.interval.proofs.Changing.{changes_in}
+use Rattle.system.specs.Reading.{with_held}
+use Rattle.system.specs.Writing.{hold_refusal, holding}
 use Rattle.sheets.specs.Frame.{frame_model}
-use Rattle.sheets.specs.Bottom.{ruled, with_cells, state_of}
+use Rattle.sheets.proofs.Held.{framed}
 use Rattle.sheets.proofs.bottom.BottomSheet.hold.Goals as goal
 
-pub returns : goal.returns
-returns g c =
+pub returns-clause-changes : goal.returns-clause-changes
+returns-clause-changes g c =
     let s = c.args.self.now in
-    let number = to_z-of_z w64 c.args.number c.ranges.number in
-    let changed = c.in_ok-hold.ensures.1 ∙ ap (λ k. with_held c.args.column (Some k) (frame_model s.frame)) number in
-    record { changes = (search rules, ap (λ (o : Model). state_of (ruled (with_cells (g.C.Cells.cell s.cells) o) (g.C.Cells.rule s.cells))) changed); rule = refl }
+    let frame = frame_model s.frame in
+    let column = c.args.column in
+    let held = subst (λ k. Changes (hold_refusal frame column k) (with_held column (Some k)) frame (frame_model c.hold.new.self) c.hold.result) (to_z-of_z w64 c.args.number c.ranges.number) c.hold.ensures in
+    changes_in (framed (g.C.Cells.cell s.cells) (g.C.Cells.rule s.cells)) _ (with_held column (Some c.args.number)) (holding column (Some c.args.number)) _ _ c.hold.result (λ m. refl) held

@@ -1,18 +1,13 @@
-use Rattle.std.proofs.Common.{None, refl}
+use Rattle.std.proofs.Common.{◌≡◌, ℕ, zero, suc, None, replicate, get_or, refl}
 use Rattle.interval.specs.Directed.{nought}
 use Rattle.cells.specs.Keeping.{bottom_reach}
-use Rattle.cells.proofs.Filled.{get_or_same, each_same}
-use Rattle.system.specs.Reading.{held_within}
+use Rattle.sheets.specs.Frame.{held_number}
 use Rattle.sheets.proofs.frame.Frame.all_free.Goals as goal
 
-pub invariant_of-result : goal.invariant_of-result
-invariant_of-result c = record {
-  some_rows = c.requires.0;
-  few_rows = c.requires.1.0;
-  some_columns = c.requires.1.1.0;
-  few_columns = c.requires.1.1.1;
-  numbers = each_same held_within _ 64 None refl refl;
-}
+none_held : (n k : ℕ) → held_number (get_or (replicate n None) k None) ≡ None
+none_held zero k = refl
+none_held (suc n) zero = refl
+none_held (suc n) (suc k) = none_held n k
 
 pub returns : goal.returns
-returns c = λ i. record { rows = c.args.rows; columns = c.args.columns; reach = bottom_reach; cell = λ _ _. nought; held = λ k. get_or_same 64 k None i }
+returns c = λ i. record { rows = c.args.counts.rows; columns = c.args.counts.columns; reach = bottom_reach; cell = λ _ _. nought; held = λ k. none_held 64 k i }
