@@ -6,56 +6,58 @@ const LIMIT: i64 = 1_000_000_000;
 
 const SQUARE: i64 = 1_000_000_000_000_000_000;
 
-fn interval(first: i64, second: i64) -> Interval {
-    Interval { first, second }
-}
-
 // Every call of the arithmetic refuses `beyond`, at each place, with 3.
 fn refused(rt: &impl Abort, beyond: Interval) {
-    let inside = interval(1, -1);
+    let inside = Interval::from((1, -1));
     assert_eq!(rt; beyond.opposite(), Err(Refusal::OutsideLimit));
     assert_eq!(rt; beyond.sum(inside), Err(Refusal::OutsideLimit));
     assert_eq!(rt; inside.sum(beyond), Err(Refusal::OutsideLimit));
     assert_eq!(rt; beyond.product(inside), Err(Refusal::OutsideLimit));
     assert_eq!(rt; inside.product(beyond), Err(Refusal::OutsideLimit));
     assert_eq!(rt; beyond.multiple(0), Err(Refusal::OutsideLimit));
-    assert_eq!(rt; Refusal::OutsideLimit.number(), 3);
+    assert_eq!(rt; u8::from(Refusal::OutsideLimit), 3);
 }
 
 #[test]
 fn one_beyond_is_refused(rt: HostRuntime) {
     for end in [LIMIT + 1, -LIMIT - 1, i64::MIN, i64::MAX] {
-        refused(&rt, interval(end, 0));
-        refused(&rt, interval(0, end));
-        refused(&rt, interval(end, end));
-        assert_eq!(rt; interval(1, 1).multiple(end), Err(Refusal::OutsideLimit));
+        refused(&rt, Interval::from((end, 0)));
+        refused(&rt, Interval::from((0, end)));
+        refused(&rt, Interval::from((end, end)));
+        assert_eq!(rt;
+            Interval::from((1, 1)).multiple(end),
+            Err(Refusal::OutsideLimit)
+        );
     }
 }
 
 #[test]
 fn at_the_limit(rt: HostRuntime) {
-    let spread = interval(-LIMIT, LIMIT);
-    let trim = interval(LIMIT, -LIMIT);
+    let spread = Interval::from((-LIMIT, LIMIT));
+    let trim = Interval::from((LIMIT, -LIMIT));
     assert_eq!(rt; spread.opposite(), Ok((-LIMIT, LIMIT)));
     assert_eq!(rt; trim.opposite(), Ok((LIMIT, -LIMIT)));
-    assert_eq!(rt; interval(LIMIT, 5).opposite(), Ok((-5, -LIMIT)));
+    assert_eq!(rt; Interval::from((LIMIT, 5)).opposite(), Ok((-5, -LIMIT)));
     assert_eq!(rt; spread.sum(spread), Ok((-2 * LIMIT, 2 * LIMIT)));
     assert_eq!(rt; spread.sum(trim), Ok((0, 0)));
     assert_eq!(rt; spread.product(spread), Ok((-SQUARE, SQUARE)));
     assert_eq!(rt; trim.product(trim), Ok((SQUARE, -SQUARE)));
     assert_eq!(rt; spread.product(trim), Ok((0, 0)));
     assert_eq!(rt;
-        interval(LIMIT, 5).multiple(-LIMIT),
+        Interval::from((LIMIT, 5)).multiple(-LIMIT),
         Ok((-5 * LIMIT, -SQUARE))
     );
-    assert_eq!(rt; interval(LIMIT, 5).multiple(LIMIT), Ok((SQUARE, 5 * LIMIT)));
+    assert_eq!(rt;
+        Interval::from((LIMIT, 5)).multiple(LIMIT),
+        Ok((SQUARE, 5 * LIMIT))
+    );
 }
 
 // Turning over, lying in, the kind and the class have no limit.
 #[test]
 fn at_the_ends_of_i64(rt: HostRuntime) {
-    let all = interval(i64::MIN, i64::MAX);
-    let none = interval(i64::MAX, i64::MIN);
+    let all = Interval::from((i64::MIN, i64::MAX));
+    let none = Interval::from((i64::MAX, i64::MIN));
     assert_eq!(rt; all.dual(), none);
     assert_eq!(rt; none.dual(), all);
     assert!(rt; none.lies_in(all));
@@ -63,9 +65,15 @@ fn at_the_ends_of_i64(rt: HostRuntime) {
     assert!(rt; all.lies_in(all));
     assert_eq!(rt; all.kind(), Kind::Spread);
     assert_eq!(rt; none.kind(), Kind::Trim);
-    assert_eq!(rt; interval(i64::MIN, i64::MIN).kind(), Kind::Fixed);
+    assert_eq!(rt; Interval::from((i64::MIN, i64::MIN)).kind(), Kind::Fixed);
     assert_eq!(rt; all.class(), Class::SpreadThroughZero);
     assert_eq!(rt; none.class(), Class::TrimThroughZero);
-    assert_eq!(rt; interval(i64::MAX, i64::MAX).class(), Class::NonNegative);
-    assert_eq!(rt; interval(i64::MIN, i64::MIN).class(), Class::NonPositive);
+    assert_eq!(rt;
+        Interval::from((i64::MAX, i64::MAX)).class(),
+        Class::NonNegative
+    );
+    assert_eq!(rt;
+        Interval::from((i64::MIN, i64::MIN)).class(),
+        Class::NonPositive
+    );
 }

@@ -92,17 +92,7 @@ fn sums_and_products(rt: HostRuntime) -> Result<(), Fail> {
         for b in ENDS {
             for c in ENDS {
                 for d in ENDS {
-                    check_pair(
-                        &rt,
-                        Interval {
-                            first: a,
-                            second: b,
-                        },
-                        Interval {
-                            first: c,
-                            second: d,
-                        },
-                    )?;
+                    check_pair(&rt, Interval::from((a, b)), Interval::from((c, d)))?;
                 }
             }
         }
@@ -115,10 +105,7 @@ fn check_multiples(rt: &impl Abort, x: Interval) -> Result<(), Fail> {
         check_forced(
             rt,
             x.multiple(t)?,
-            Interval {
-                first: t,
-                second: t,
-            },
+            Interval::from((t, t)),
             Operation::Times,
             x,
         );
@@ -126,10 +113,7 @@ fn check_multiples(rt: &impl Abort, x: Interval) -> Result<(), Fail> {
     check_forced(
         rt,
         x.opposite()?,
-        Interval {
-            first: -1,
-            second: -1,
-        },
+        Interval::from((-1, -1)),
         Operation::Times,
         x,
     );
@@ -140,13 +124,7 @@ fn check_multiples(rt: &impl Abort, x: Interval) -> Result<(), Fail> {
 fn multiples_and_opposites(rt: HostRuntime) -> Result<(), Fail> {
     for a in ENDS {
         for b in ENDS {
-            check_multiples(
-                &rt,
-                Interval {
-                    first: a,
-                    second: b,
-                },
-            )?;
+            check_multiples(&rt, Interval::from((a, b)))?;
         }
     }
     Ok(())
@@ -187,19 +165,10 @@ const KINDS: [[Kind; 5]; 5] = [
 fn classes_and_kinds(rt: HostRuntime) {
     for ((a, classes), kinds) in ENDS.iter().zip(CLASSES.iter()).zip(KINDS.iter()) {
         for ((b, class), kind) in ENDS.iter().zip(classes.iter()).zip(kinds.iter()) {
-            let x = Interval {
-                first: *a,
-                second: *b,
-            };
+            let x = Interval::from((*a, *b));
             assert_eq!(rt; x.class(), *class);
             assert_eq!(rt; x.kind(), *kind);
-            assert_eq!(rt;
-                x.dual(),
-                Interval {
-                    first: *b,
-                    second: *a,
-                }
-            );
+            assert_eq!(rt; x.dual(), Interval::from((*b, *a)));
         }
     }
 }
@@ -207,10 +176,7 @@ fn classes_and_kinds(rt: HostRuntime) {
 // (1, 2) against each interval that differs from it by one at an end or at both, and against its dual.
 #[test]
 fn lying_in(rt: HostRuntime) {
-    let x = Interval {
-        first: 1,
-        second: 2,
-    };
+    let x = Interval::from((1, 2));
     for (first, second, lies) in [
         (1, 2, true),
         (0, 2, true),
@@ -222,7 +188,7 @@ fn lying_in(rt: HostRuntime) {
         (0, 1, false),
         (2, 1, false),
     ] {
-        assert_eq!(rt; x.lies_in(Interval { first, second }), lies);
+        assert_eq!(rt; x.lies_in(Interval::from((first, second))), lies);
     }
     assert!(rt; x.dual().lies_in(x));
 }

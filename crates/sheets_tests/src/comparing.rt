@@ -1,5 +1,6 @@
 // When two sheets, of any kinds, are the same.
-use crate::making::{NOUGHT, ONE, banded_sheet, full_sheet, interval, parts_sheet};
+use crate::making::{NOUGHT, ONE, banded_sheet, full_sheet, parts_sheet};
+use interval::Interval;
 use std::process::Abort;
 use std::test::Fail;
 use system::{Sheet, System, same};
@@ -14,8 +15,8 @@ fn check_same<A: System, B: System>(rt: &impl Abort, a: &A, b: &B, expected: boo
 // On four rows and five columns.
 fn put_some<S: Sheet>(sheet: &mut S) -> Result<(), Fail> {
     sheet.put(0, 0, ONE)?;
-    sheet.put(2, 1, interval(-3, 4))?;
-    sheet.put(3, 4, interval(7, -7))?;
+    sheet.put(2, 1, Interval::from((-3, 4)))?;
+    sheet.put(3, 4, Interval::from((7, -7)))?;
     Ok(())
 }
 
@@ -39,7 +40,7 @@ fn sheets_of_different_kinds_are_the_same_by_their_cells(rt: HostRuntime) -> Res
 // The other sheet is all (0, 0), so a value at one place makes the two differ.
 fn check_one_cell<A: Sheet, B: System>(rt: &impl Abort, a: &mut A, b: &B) -> Result<(), Fail> {
     for (row, column) in [(3, 4), (3, 0), (0, 4), (0, 0)] {
-        for value in [ONE, interval(1, 0), interval(0, 1)] {
+        for value in [ONE, Interval::from((1, 0)), Interval::from((0, 1))] {
             a.put(row, column, value)?;
             check_same(rt, a, b, false);
         }

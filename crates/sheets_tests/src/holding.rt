@@ -1,6 +1,8 @@
 // Holding and freeing columns: numbers within ±1,000.
 use crate::making::{banded_sheet, full_sheet, parts_sheet};
+use cells::Clear;
 use interval::Refusal;
+use sheets::Bottom;
 use std::process::Abort;
 use std::test::Fail;
 use system::{Sheet, System};
@@ -62,29 +64,28 @@ fn check_holding<S: Sheet>(rt: &impl Abort, sheet: &mut S) -> Result<(), Fail> {
     check_freeing(rt, sheet)
 }
 
+fn check_freed_by_sizing<C: Clear>(rt: &impl Abort, sheet: &mut Bottom<C>) -> Result<(), Fail> {
+    check_holding(rt, sheet)?;
+    sheet.size(2, 3)?;
+    check_held(rt, sheet, None, None, None);
+    Ok(())
+}
+
 #[test]
 fn a_full_sheet_holds_and_frees(rt: HostRuntime) -> Result<(), Fail> {
-    let mut sheet = full_sheet(rt.alloc(), 2, 3)?;
-    check_holding(&rt, &mut sheet)?;
-    sheet.size(2, 3)?;
-    check_held(&rt, &sheet, None, None, None);
-    Ok(())
+    check_freed_by_sizing(&rt, &mut full_sheet(rt.alloc(), 2, 3)?)
+}
+
+#[test]
+fn a_parts_sheet_holds_and_frees(rt: HostRuntime) -> Result<(), Fail> {
+    check_freed_by_sizing(&rt, &mut parts_sheet(2, 3)?)
 }
 
 #[test]
 fn a_banded_sheet_holds_and_frees(rt: HostRuntime) -> Result<(), Fail> {
     let mut sheet = banded_sheet(rt.alloc(), 2, 3, 0)?;
     check_holding(&rt, &mut sheet)?;
-    sheet.size(2, 3, 0)?;
-    check_held(&rt, &sheet, None, None, None);
-    Ok(())
-}
-
-#[test]
-fn a_parts_sheet_holds_and_frees(rt: HostRuntime) -> Result<(), Fail> {
-    let mut sheet = parts_sheet(2, 3)?;
-    check_holding(&rt, &mut sheet)?;
-    sheet.size(2, 3)?;
+    sheet.size_with_width(2, 3, 0)?;
     check_held(&rt, &sheet, None, None, None);
     Ok(())
 }

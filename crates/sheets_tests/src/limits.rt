@@ -1,5 +1,5 @@
 // What a put takes: ends within ±100,000, at the first end and at the second.
-use crate::making::{ONE, banded_sheet, fault, full_sheet, interval, parts_sheet};
+use crate::making::{ONE, banded_sheet, fault, full_sheet, parts_sheet};
 use interval::Interval;
 use std::process::Abort;
 use std::test::Fail;
@@ -34,14 +34,14 @@ fn check_refused<S: Sheet>(rt: &impl Abort, sheet: &mut S, value: Interval) {
 
 fn check_limits<S: Sheet>(rt: &impl Abort, sheet: &mut S) -> Result<(), Fail> {
     for (first, second) in TAKEN {
-        sheet.put(1, 1, interval(first, second))?;
-        assert_eq!(rt; sheet.cell(1, 1), Ok(interval(first, second)));
+        sheet.put(1, 1, Interval::from((first, second)))?;
+        assert_eq!(rt; sheet.cell(1, 1), Ok(Interval::from((first, second))));
     }
     sheet.put(1, 1, ONE)?;
     for end in BEYOND {
-        check_refused(rt, sheet, interval(end, 0));
-        check_refused(rt, sheet, interval(0, end));
-        check_refused(rt, sheet, interval(end, end));
+        check_refused(rt, sheet, Interval::from((end, 0)));
+        check_refused(rt, sheet, Interval::from((0, end)));
+        check_refused(rt, sheet, Interval::from((end, end)));
     }
     Ok(())
 }

@@ -1,6 +1,7 @@
 // The sheets that the tests make, and what they put on them.
+use cells::Clear;
 use interval::Interval;
-use sheets::{Banded, Full, Parts};
+use sheets::{Banded, Bottom, Full, Parts};
 use std::alloc::Global;
 use std::process::Abort;
 use std::test::Fail;
@@ -16,10 +17,6 @@ pub(crate) const ONE: Interval = Interval {
     second: 1,
 };
 
-pub(crate) fn interval(first: i64, second: i64) -> Interval {
-    Interval { first, second }
-}
-
 // The fault of a bottom.
 pub(crate) fn fault(number: u8, row: usize, column: usize) -> PutFault {
     PutFault {
@@ -30,10 +27,21 @@ pub(crate) fn fault(number: u8, row: usize, column: usize) -> PutFault {
     }
 }
 
-pub(crate) fn full_sheet(heap: Global, rows: usize, columns: usize) -> Result<Full, Fail> {
-    let mut sheet = Full::new(heap)?;
+fn sized<C: Clear + Drop>(
+    mut sheet: Bottom<C>,
+    rows: usize,
+    columns: usize,
+) -> Result<Bottom<C>, Fail> {
     sheet.size(rows, columns)?;
     Ok(sheet)
+}
+
+pub(crate) fn full_sheet(heap: Global, rows: usize, columns: usize) -> Result<Full, Fail> {
+    sized(Full::new(heap)?, rows, columns)
+}
+
+pub(crate) fn parts_sheet(rows: usize, columns: usize) -> Result<Parts, Fail> {
+    sized(Parts::new(), rows, columns)
 }
 
 pub(crate) fn banded_sheet(
@@ -43,19 +51,13 @@ pub(crate) fn banded_sheet(
     width: usize,
 ) -> Result<Banded, Fail> {
     let mut sheet = Banded::new(heap)?;
-    sheet.size(rows, columns, width)?;
-    Ok(sheet)
-}
-
-pub(crate) fn parts_sheet(rows: usize, columns: usize) -> Result<Parts, Fail> {
-    let mut sheet = Parts::new();
-    sheet.size(rows, columns)?;
+    sheet.size_with_width(rows, columns, width)?;
     Ok(sheet)
 }
 
 // A value that no other place has, and not (0, 0).
 pub(crate) fn own_value(row: u8, column: u8) -> Interval {
-    interval(i64::from(row), i64::from(column) + 1)
+    Interval::from((i64::from(row), i64::from(column) + 1))
 }
 
 pub(crate) fn put_own<S: Sheet>(sheet: &mut S, row: u8, column: u8) -> Result<(), PutFault> {

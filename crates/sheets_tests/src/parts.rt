@@ -1,5 +1,6 @@
 // The parts sheet: 128 parts and no more, and slots that are used again.
-use crate::making::{NOUGHT, ONE, check_own, fault, interval, parts_sheet, put_own};
+use crate::making::{NOUGHT, ONE, check_own, fault, parts_sheet, put_own};
+use interval::Interval;
 use sheets::Parts;
 use std::process::Abort;
 use std::test::Fail;
@@ -53,7 +54,7 @@ fn a_129th_part_is_refused(rt: HostRuntime) -> Result<(), Fail> {
 #[test]
 fn a_full_sheet_takes_rewrites_and_noughts(rt: HostRuntime) -> Result<(), Fail> {
     let mut sheet = filled()?;
-    for value in [interval(1, 0), interval(0, 1), ONE] {
+    for value in [Interval::from((1, 0)), Interval::from((0, 1)), ONE] {
         sheet.put(0, 7, value)?;
         assert_eq!(rt; sheet.cell(0, 7), Ok(value));
         check_full(&rt, &mut sheet);

@@ -1,7 +1,8 @@
 // Making and sizing: counts from 1 to 64, widths from 0 to 8, and nothing left of what stood there.
-use crate::making::{NOUGHT, ONE, banded_sheet, fault, full_sheet, interval, parts_sheet};
-use interval::Refusal;
-use sheets::{Banded, Full, Parts};
+use crate::making::{NOUGHT, ONE, banded_sheet, fault, full_sheet, parts_sheet};
+use cells::Clear;
+use interval::{Interval, Refusal};
+use sheets::{Banded, Bottom, Full, Parts};
 use std::process::Abort;
 use std::test::Fail;
 use system::{Sheet, System};
@@ -20,10 +21,10 @@ const BAD_COUNTS: [(usize, usize); 8] = [
 // Other answers than a put's are compared by these names.
 #[test]
 fn refusals_have_their_numbers(rt: HostRuntime) {
-    assert_eq!(rt; Refusal::NoSuchPlace.number(), 2);
-    assert_eq!(rt; Refusal::OutsideLimit.number(), 3);
-    assert_eq!(rt; Refusal::NotKept.number(), 5);
-    assert_eq!(rt; Refusal::PartsFull.number(), 6);
+    assert_eq!(rt; u8::from(Refusal::NoSuchPlace), 2);
+    assert_eq!(rt; u8::from(Refusal::OutsideLimit), 3);
+    assert_eq!(rt; u8::from(Refusal::NotKept), 5);
+    assert_eq!(rt; u8::from(Refusal::PartsFull), 6);
 }
 
 fn check_new<S: System>(rt: &impl Abort, sheet: &S) {
@@ -47,8 +48,8 @@ fn a_new_bottom_is_one_by_one(rt: HostRuntime) -> Result<(), Fail> {
 fn check_largest<S: Sheet>(rt: &impl Abort, sheet: &mut S) -> Result<(), Fail> {
     assert_eq!(rt; sheet.rows(), 64);
     assert_eq!(rt; sheet.columns(), 64);
-    sheet.put(63, 63, interval(-5, 9))?;
-    assert_eq!(rt; sheet.cell(63, 63), Ok(interval(-5, 9)));
+    sheet.put(63, 63, Interval::from((-5, 9)))?;
+    assert_eq!(rt; sheet.cell(63, 63), Ok(Interval::from((-5, 9))));
     assert_eq!(rt; sheet.cell(64, 63), Err(Refusal::NoSuchPlace));
     assert_eq!(rt; sheet.cell(63, 64), Err(Refusal::NoSuchPlace));
     assert_eq!(rt; sheet.put(64, 63, ONE), Err(fault(2, 64, 63)));
@@ -77,32 +78,29 @@ fn check_marked<S: System>(rt: &impl Abort, sheet: &S) {
     assert_eq!(rt; sheet.held(5), Ok(Some(-7)));
 }
 
-#[test]
-fn full_refuses_bad_counts_and_keeps_all(rt: HostRuntime) -> Result<(), Fail> {
-    let mut sheet = full_sheet(rt.alloc(), 5, 6)?;
-    mark(&mut sheet)?;
+fn check_bad_counts<C: Clear>(rt: &impl Abort, sheet: &mut Bottom<C>) -> Result<(), Fail> {
+    mark(sheet)?;
     for (rows, columns) in BAD_COUNTS {
         assert_eq!(rt; sheet.size(rows, columns), Err(Refusal::OutsideLimit));
-        check_marked(&rt, &sheet);
+        check_marked(rt, sheet);
     }
     Ok(())
 }
 
 #[test]
+fn full_refuses_bad_counts_and_keeps_all(rt: HostRuntime) -> Result<(), Fail> {
+    check_bad_counts(&rt, &mut full_sheet(rt.alloc(), 5, 6)?)
+}
+
+#[test]
 fn parts_refuses_bad_counts_and_keeps_all(rt: HostRuntime) -> Result<(), Fail> {
-    let mut sheet = parts_sheet(5, 6)?;
-    mark(&mut sheet)?;
-    for (rows, columns) in BAD_COUNTS {
-        assert_eq!(rt; sheet.size(rows, columns), Err(Refusal::OutsideLimit));
-        check_marked(&rt, &sheet);
-    }
-    Ok(())
+    check_bad_counts(&rt, &mut parts_sheet(5, 6)?)
 }
 
 // The sheet has width 1, so that it keeps row 3, column 4, and not row 3, column 1.
 fn check_refused(rt: &impl Abort, sheet: &mut Banded, rows: usize, columns: usize, width: usize) {
     assert_eq!(rt;
-        sheet.size(rows, columns, width),
+        sheet.size_with_width(rows, columns, width),
         Err(Refusal::OutsideLimit)
     );
     check_marked(rt, sheet);
@@ -138,26 +136,25 @@ fn check_blank<S: System>(rt: &impl Abort, sheet: &S) {
     assert_eq!(rt; sheet.held(63), Ok(None));
 }
 
-// Cells and held columns that a small sheet has no place for are gone too.
+// The sheet has 64 rows and columns. Cells and held columns that a small sheet has no place for are gone too.
+fn check_clears<C: Clear>(rt: &impl Abort, sheet: &mut Bottom<C>) -> Result<(), Fail> {
+    occupy(sheet)?;
+    sheet.size(1, 1)?;
+    check_new(rt, sheet);
+    sheet.size(64, 64)?;
+    check_blank(rt, sheet);
+    Ok(())
+}
+
 #[test]
 fn sizing_clears_and_frees(rt: HostRuntime) -> Result<(), Fail> {
-    let mut full = full_sheet(rt.alloc(), 64, 64)?;
-    occupy(&mut full)?;
-    full.size(1, 1)?;
-    check_new(&rt, &full);
-    full.size(64, 64)?;
-    check_blank(&rt, &full);
+    check_clears(&rt, &mut full_sheet(rt.alloc(), 64, 64)?)?;
+    check_clears(&rt, &mut parts_sheet(64, 64)?)?;
     let mut banded = banded_sheet(rt.alloc(), 64, 64, 8)?;
     occupy(&mut banded)?;
-    banded.size(1, 1, 8)?;
+    banded.size_with_width(1, 1, 8)?;
     check_new(&rt, &banded);
-    banded.size(64, 64, 8)?;
+    banded.size_with_width(64, 64, 8)?;
     check_blank(&rt, &banded);
-    let mut parts = parts_sheet(64, 64)?;
-    occupy(&mut parts)?;
-    parts.size(1, 1)?;
-    check_new(&rt, &parts);
-    parts.size(64, 64)?;
-    check_blank(&rt, &parts);
     Ok(())
 }
