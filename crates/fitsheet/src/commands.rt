@@ -1,9 +1,9 @@
 // A line of a script as a command.
-use crate::reading::{Complaint, read_interval, read_number, read_place, word};
+use crate::reading::{Complaint, Words, split_word};
 use interval::Interval;
 use std::fmt;
 
-#[derive(Clone, Copy)]
+#[derive(Clone, Copy, PartialEq, Eq, Debug)]
 pub enum Command<'a> {
     New(SheetName),
     Size(Size),
@@ -12,162 +12,182 @@ pub enum Command<'a> {
     Row(&'a str),
 }
 
-#[derive(Clone, Copy)]
+#[derive(Clone, Copy, PartialEq, Eq, Debug)]
 pub enum SheetName {
     Full,
     Banded,
     Parts,
 }
 
-// Rows and columns, and for the banded sheet a width.
-#[derive(Clone, Copy)]
-pub enum Size {
-    Full(usize, usize),
-    Banded(usize, usize, usize),
-    Parts(usize, usize),
+#[derive(Clone, Copy, PartialEq, Eq, Debug)]
+pub struct Size {
+    pub shape: Shape,
+    pub rows: usize,
+    pub columns: usize,
+}
+
+// The sheet that is sized, and what it takes beside rows and columns.
+#[derive(Clone, Copy, PartialEq, Eq, Debug)]
+pub enum Shape {
+    Full,
+    Banded { width: usize },
+    Parts,
 }
 
 // What is asked of a sheet of any kind.
-#[derive(Clone, Copy)]
+#[derive(Clone, Copy, PartialEq, Eq, Debug)]
 pub enum Order {
-    Put(usize, usize, Interval),
-    Hold(usize, i64),
-    Free(usize),
-    Cell(usize, usize),
-    Held(usize),
+    Put {
+        row: usize,
+        column: usize,
+        value: Interval,
+    },
+    Hold {
+        column: usize,
+        number: i64,
+    },
+    Free {
+        column: usize,
+    },
+    Cell {
+        row: usize,
+        column: usize,
+    },
+    Held {
+        column: usize,
+    },
     Show,
 }
 
 pub(crate) fn read_command(line: &str) -> Result<Command<'_>, Complaint<'_>> {
-    let (first, rest) = word(line);
+    let (first, rest) = split_word(line);
     match first {
         "row" => Ok(Command::Row(rest)),
         "same" => read_same(rest),
-        _ => match read_name(first) {
-            Some(name) => read_on(name, rest),
-            None => Err(Complaint::Unknown(first)),
-        },
+        _ => read_on(SheetName::try_from(first)?, rest),
     }
 }
 
 fn read_same(text: &str) -> Result<Command<'_>, Complaint<'_>> {
-    let (first, rest) = word(text);
-    let (second, rest) = word(rest);
-    match (read_name(first), read_name(second)) {
-        (Some(a), Some(b)) if rest.is_empty() => Ok(Command::Same(a, b)),
-        _ => Err(Complaint::Usage("same SHEET SHEET")),
-    }
-}
-
-fn read_name(text: &str) -> Option<SheetName> {
-    match text {
-        "full" => Some(SheetName::Full),
-        "banded" => Some(SheetName::Banded),
-        "parts" => Some(SheetName::Parts),
-        _ => None,
-    }
+    let mut words = Words::new(text, "same SHEET SHEET");
+    let command = Command::Same(words.sheet()?, words.sheet()?);
+    words.end()?;
+    Ok(command)
 }
 
 fn read_on(name: SheetName, text: &str) -> Result<Command<'_>, Complaint<'_>> {
-    let (verb, rest) = word(text);
+    let (verb, rest) = split_word(text);
     match verb {
         "new" => {
-            nothing(rest, "SHEET new")?;
+            Words::new(rest, "SHEET new").end()?;
             Ok(Command::New(name))
         }
-        "size" => read_size(name, rest),
+        "size" => Ok(Command::Size(read_size(name, rest)?)),
         _ => Ok(Command::On(name, read_order(verb, rest)?)),
     }
 }
 
-fn read_size(name: SheetName, text: &str) -> Result<Command<'_>, Complaint<'_>> {
-    let usage = match name {
-        SheetName::Full => "full size ROWS COLUMNS",
-        SheetName::Banded => "banded size ROWS COLUMNS WIDTH",
-        SheetName::Parts => "parts size ROWS COLUMNS",
+fn read_size(name: SheetName, text: &str) -> Result<Size, Complaint<'_>> {
+    let mut words = Words::new(text, name.size_usage());
+    let rows = words.place()?;
+    let columns = words.place()?;
+    let shape = match name {
+        SheetName::Full => Shape::Full,
+        SheetName::Banded => Shape::Banded {
+            width: words.place()?,
+        },
+        SheetName::Parts => Shape::Parts,
     };
-    let (rows, rest) = read_place(text, usage)?;
-    let (columns, rest) = read_place(rest, usage)?;
-    match name {
-        SheetName::Full => {
-            nothing(rest, usage)?;
-            Ok(Command::Size(Size::Full(rows, columns)))
-        }
-        SheetName::Banded => {
-            let (width, rest) = read_place(rest, usage)?;
-            nothing(rest, usage)?;
-            Ok(Command::Size(Size::Banded(rows, columns, width)))
-        }
-        SheetName::Parts => {
-            nothing(rest, usage)?;
-            Ok(Command::Size(Size::Parts(rows, columns)))
-        }
-    }
+    words.end()?;
+    Ok(Size {
+        shape,
+        rows,
+        columns,
+    })
 }
 
-fn read_order<'a>(verb: &'a str, text: &'a str) -> Result<Order, Complaint<'a>> {
+fn read_order<'a>(verb: &str, text: &'a str) -> Result<Order, Complaint<'a>> {
     match verb {
         "put" => {
-            let usage = "SHEET put ROW COLUMN (FIRST, SECOND)";
-            let (row, rest) = read_place(text, usage)?;
-            let (column, rest) = read_place(rest, usage)?;
-            Ok(Order::Put(row, column, read_interval(rest, usage)?))
+            let mut words = Words::new(text, "SHEET put ROW COLUMN (FIRST, SECOND)");
+            Ok(Order::Put {
+                row: words.place()?,
+                column: words.place()?,
+                value: words.interval()?,
+            })
         }
         "hold" => {
-            let usage = "SHEET hold COLUMN NUMBER";
-            let (column, rest) = read_place(text, usage)?;
-            let (number, rest) = word(rest);
-            nothing(rest, usage)?;
-            Ok(Order::Hold(column, read_number(number, usage)?))
+            let mut words = Words::new(text, "SHEET hold COLUMN NUMBER");
+            Ok(Order::Hold {
+                column: words.place()?,
+                number: words.last_number()?,
+            })
         }
-        "free" => Ok(Order::Free(read_column(text, "SHEET free COLUMN")?)),
-        "held" => Ok(Order::Held(read_column(text, "SHEET held COLUMN")?)),
+        "free" => Ok(Order::Free {
+            column: Words::new(text, "SHEET free COLUMN").last_place()?,
+        }),
         "cell" => {
-            let usage = "SHEET cell ROW COLUMN";
-            let (row, rest) = read_place(text, usage)?;
-            Ok(Order::Cell(row, read_column(rest, usage)?))
+            let mut words = Words::new(text, "SHEET cell ROW COLUMN");
+            Ok(Order::Cell {
+                row: words.place()?,
+                column: words.last_place()?,
+            })
         }
+        "held" => Ok(Order::Held {
+            column: Words::new(text, "SHEET held COLUMN").last_place()?,
+        }),
         "show" => {
-            nothing(text, "SHEET show")?;
+            Words::new(text, "SHEET show").end()?;
             Ok(Order::Show)
         }
         _ => Err(Complaint::Usage("SHEET new, size, put, hold, free, cell, held or show")),
     }
 }
 
-fn read_column<'a>(text: &'a str, usage: &'static str) -> Result<usize, Complaint<'a>> {
-    let (column, rest) = read_place(text, usage)?;
-    nothing(rest, usage)?;
-    Ok(column)
+impl<'a> TryFrom<&'a str> for SheetName {
+    type Error = Complaint<'a>;
+
+    fn try_from(text: &'a str) -> Result<SheetName, Complaint<'a>> {
+        match text {
+            "full" => Ok(SheetName::Full),
+            "banded" => Ok(SheetName::Banded),
+            "parts" => Ok(SheetName::Parts),
+            _ => Err(Complaint::Unknown(text)),
+        }
+    }
 }
 
-fn nothing<'a>(rest: &'a str, usage: &'static str) -> Result<(), Complaint<'a>> {
-    if rest.is_empty() {
-        Ok(())
-    } else {
-        Err(Complaint::Usage(usage))
+impl SheetName {
+    fn size_usage(self) -> &'static str {
+        match self {
+            SheetName::Full => "full size ROWS COLUMNS",
+            SheetName::Banded => "banded size ROWS COLUMNS WIDTH",
+            SheetName::Parts => "parts size ROWS COLUMNS",
+        }
     }
 }
 
 impl Size {
-    pub(crate) fn name(self) -> SheetName {
-        match self {
-            Size::Full(_, _) => SheetName::Full,
-            Size::Banded(_, _, _) => SheetName::Banded,
-            Size::Parts(_, _) => SheetName::Parts,
+    pub(crate) fn sheet(self) -> SheetName {
+        match self.shape {
+            Shape::Full => SheetName::Full,
+            Shape::Banded { .. } => SheetName::Banded,
+            Shape::Parts => SheetName::Parts,
         }
     }
 }
 
 impl fmt::Display for Size {
     fn fmt<W: fmt::Write>(&self, f: &mut fmt::Formatter<W>) -> fmt::Result {
-        match self {
-            Size::Full(rows, columns) => write!(f, "{rows} by {columns}"),
-            Size::Banded(rows, columns, width) => write!(
-                f,
-                "{rows} by {columns} with width {width}"
-            ),
-            Size::Parts(rows, columns) => write!(f, "{rows} by {columns}"),
+        let Size {
+            shape,
+            rows,
+            columns,
+        } = self;
+        write!(f, "{rows} by {columns}")?;
+        match shape {
+            Shape::Banded { width } => write!(f, " with width {width}"),
+            Shape::Full | Shape::Parts => Ok(()),
         }
     }
 }

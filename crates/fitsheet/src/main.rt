@@ -20,29 +20,25 @@ fn main(rt: HostRuntime) -> io::Result<()> {
 // Each argument names a file, and `-` standard input, which is read too if there is no argument.
 fn answer_inputs(rt: &HostRuntime) -> io::Result<()> {
     let mut bench = Bench::new(rt.alloc())?;
-    let mut named = false;
-    for name in env::args(rt)?.skip(1) {
-        named = true;
-        if name.as_str() == "-" {
-            answer_lines(rt, &mut bench, rt.stdin())?;
-        } else {
-            answer_lines(rt, &mut bench, open(rt, name.as_str())?)?;
+    let mut names = env::args(rt)?.skip(1).peekable();
+    if names.peek().is_none() {
+        return answer_lines(rt, &mut bench, rt.stdin());
+    }
+    for name in names {
+        match name.as_str() {
+            "-" => answer_lines(rt, &mut bench, rt.stdin())?,
+            path => answer_lines(rt, &mut bench, open(rt, path)?)?,
         }
     }
-    if named {
-        return Ok(());
-    }
-    answer_lines(rt, &mut bench, rt.stdin())
+    Ok(())
 }
 
 fn open(rt: &HostRuntime, name: &str) -> io::Result<File> {
-    match File::open(rt, name) {
-        Ok(file) => Ok(file),
-        Err(e) => {
-            eprintln!(rt; "{name} cannot be opened")?;
-            Err(e)
-        }
+    let file = File::open(rt, name);
+    if file.is_err() {
+        eprintln!(rt; "{name} cannot be opened")?;
     }
+    file
 }
 
 fn answer_lines<R: Read + Drop>(rt: &HostRuntime, bench: &mut Bench, input: R) -> io::Result<()> {

@@ -17,9 +17,7 @@ pub(crate) fn answer_row(rt: &HostRuntime, text: &str) -> io::Result<()> {
 }
 
 fn read_term(text: &str) -> Result<Term, Complaint<'_>> {
-    let Some((cell, factor)) = text.split_once("at") else {
-        return Err(Complaint::Usage(USAGE));
-    };
+    let (cell, factor) = text.split_once("at").ok_or(Complaint::Usage(USAGE))?;
     Ok(Term {
         cell: read_interval(cell.trim(), USAGE)?,
         factor: read_number(factor.trim(), USAGE)?,
@@ -37,12 +35,9 @@ fn judge(rt: &HostRuntime, terms: &[Term]) -> io::Result<()> {
         )?;
     }
     match walk.end {
-        Ok(sum) => {
-            let verdict = Verdict::of(sum);
-            println!(rt; "  {verdict}")
-        }
+        Ok(sum) => println!(rt; "  {}", Verdict::of(sum)),
         Err(refusal) => {
-            let (column, number) = (walk.steps.len(), refusal.number());
+            let (column, number) = (walk.steps.len(), u8::from(refusal));
             println!(rt; "  column {column}: refused ({number}): {refusal}")
         }
     }

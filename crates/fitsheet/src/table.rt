@@ -3,43 +3,58 @@ use std::alloc::{AllocError, Global};
 use std::io;
 use system::System;
 
+// What stands before the columns, and the text of each column.
+#[derive(Debug, Drop)]
+struct Line {
+    head: String,
+    texts: Vec<String>,
+}
+
 pub(crate) fn show<S: System>(rt: &HostRuntime, sheet: &S) -> io::Result<()> {
     let (rows, columns, reach) = (sheet.rows(), sheet.columns(), sheet.reach());
     println!(rt; "  rows: {rows}, columns: {columns}, reach: {reach}")?;
-    let width = widest(rt.alloc(), sheet)?;
-    print!(rt; "        ")?;
-    for column in 0..columns {
-        let text = format!(in rt.alloc(); "column {column}")?;
-        print!(rt; "  {text:>width$}")?;
-    }
-    println!(rt)?;
-    print!(rt; "        ")?;
-    for column in 0..columns {
-        let text = held_text(rt.alloc(), sheet, column)?;
-        print!(rt; "  {text:>width$}")?;
-    }
-    println!(rt)?;
-    for row in 0..rows {
-        print!(rt; "  row {row:2}")?;
-        for column in 0..columns {
-            let text = cell_text(rt.alloc(), sheet, row, column)?;
-            print!(rt; "  {text:>width$}")?;
-        }
-        println!(rt)?;
+    let lines = lines_of(rt.alloc(), sheet)?;
+    let texts = lines.iter().flat_map(|line| line.texts.iter());
+    let width = texts.map(|text| text.len()).max().unwrap_or(0);
+    for line in &lines {
+        print_line(rt, line, width)?;
     }
     Ok(())
 }
 
-// The length of the longest text that stands in a column.
-fn widest<S: System>(heap: Global, sheet: &S) -> Result<usize, AllocError> {
-    let mut most = "column 63".len();
-    for column in 0..sheet.columns() {
-        most = most.max(held_text(heap, sheet, column)?.len());
-        for row in 0..sheet.rows() {
-            most = most.max(cell_text(heap, sheet, row, column)?.len());
-        }
+fn print_line(rt: &HostRuntime, line: &Line, width: usize) -> io::Result<()> {
+    print!(rt; "{:8}", line.head)?;
+    for text in &line.texts {
+        print!(rt; "  {text:>width$}")?;
     }
-    Ok(most)
+    println!(rt)
+}
+
+fn lines_of<S: System>(heap: Global, sheet: &S) -> Result<Vec<Line>, AllocError> {
+    let columns = sheet.columns();
+    let mut lines = vec![in heap;
+        Line {
+            head: String::new(heap),
+            texts: (0..columns)
+                .map(|column| format!(in heap; "column {column}"))
+                .try_collect(heap)?,
+        },
+        Line {
+            head: String::new(heap),
+            texts: (0..columns)
+                .map(|column| held_text(heap, sheet, column))
+                .try_collect(heap)?,
+        },
+    ]?;
+    for row in 0..sheet.rows() {
+        lines.push(Line {
+            head: format!(in heap; "  row {row:2}")?,
+            texts: (0..columns)
+                .map(|column| cell_text(heap, sheet, row, column))
+                .try_collect(heap)?,
+        })?;
+    }
+    Ok(lines)
 }
 
 fn cell_text<S: System>(
@@ -49,11 +64,8 @@ fn cell_text<S: System>(
     column: usize,
 ) -> Result<String, AllocError> {
     match sheet.cell(row, column) {
-        Ok(cell) => {
-            let kind = cell.kind();
-            format!(in heap; "{kind} {cell}")
-        }
-        Err(_) => format!(in heap; ""),
+        Ok(cell) => format!(in heap; "{} {cell}", cell.kind()),
+        Err(_) => Ok(String::new(heap)),
     }
 }
 
@@ -61,6 +73,6 @@ fn held_text<S: System>(heap: Global, sheet: &S, column: usize) -> Result<String
     match sheet.held(column) {
         Ok(Some(number)) => format!(in heap; "held at {number}"),
         Ok(None) => format!(in heap; "free"),
-        Err(_) => format!(in heap; ""),
+        Err(_) => Ok(String::new(heap)),
     }
 }
