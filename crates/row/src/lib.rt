@@ -10,14 +10,14 @@ use interval::{Interval, Refusal};
 use std::alloc::{AllocError, Global};
 use std::fmt;
 
-#[derive(Clone, Copy)]
+#[derive(Clone, Copy, PartialEq, Eq, Debug)]
 pub struct Term {
     pub cell: Interval,
     pub factor: i64,
 }
 
 // What one term makes of the sum before it.
-#[derive(Clone, Copy)]
+#[derive(Clone, Copy, PartialEq, Eq, Debug)]
 pub struct Step {
     pub multiple: Interval,
     pub sum: Interval,
@@ -27,18 +27,16 @@ impl Term {
     pub fn multiple(self) -> Result<Interval, Refusal>
         ensures { Answers (multiple_refusal self) (multiple_of self.factor self.cell) result }
     {
-        let ends = self.cell.multiple(self.factor)?;
-        Ok(Interval::from(ends))
+        Ok(Interval::from(self.cell.multiple(self.factor)?))
     }
 
     pub fn add_to(self, sum: Interval) -> Result<Step, Refusal>
         ensures { Answers (refusal_of sum self) (step_of sum self) result }
     {
         let multiple = self.multiple()?;
-        let ends = sum.sum(multiple)?;
         Ok(Step {
             multiple,
-            sum: Interval::from(ends),
+            sum: Interval::from(sum.sum(multiple)?),
         })
     }
 }
@@ -79,7 +77,7 @@ impl Walk {
 }
 
 // `Low` and `High` hold what the best trim leaves at the worst spread.
-#[derive(Clone, Copy)]
+#[derive(Clone, Copy, PartialEq, Eq, Debug)]
 pub enum Verdict {
     Balanced,
     Low(i64),
