@@ -1,16 +1,25 @@
 -- A pile: a bottom, and layers over it, the topmost first.
-use Rattle.std.specs.Prelude.{ℕ, List, [], ◌∷◌, ℤ, Some, None, Option}
+use Rattle.std.specs.Prelude.{ℕ, false, cond, not, List, [], ◌∷◌, None}
 use Rattle.interval.specs.declared.directed.Interval.{Interval}
 use Rattle.interval.specs.Directed.{nought}
 use Rattle.system.specs.Reading.{Model}
-use Rattle.system.specs.Writing.{Refuses, State, state, hold_refusal, free_refusal}
+use Rattle.system.specs.Writing.{Refuses, State, state}
 use Rattle.layer.specs.Views.{Extent, View, extent_of, layered, answers}
+use Rattle.pile.specs.declared.descent.Landing.{Landing}
 use Rattle.pile.specs.declared.descent.Lowered.{Lowered}
 
 -- what is read through the layers
 abbrev pub laid : {L : Type 0} → (L → Extent → View) → List L → Model → Model
 laid view [] m = m
 laid view (l ∷ ls) m = layered (view l) (laid view ls m)
+
+-- the bottom's column that a column stands for, and whether a number at which that is held is shown negated
+abbrev pub landed : {L : Type 0} → (L → Extent → View) → List L → Model → ℕ → Landing
+landed view [] m c = record { column = c; negated = false }
+landed view (l ∷ ls) m c =
+    let v = view l (extent_of (laid view ls m)) in
+    let below = landed view ls m (v.column c) in
+    record { column = below.column; negated = cond (v.negated c) (not below.negated) below.negated }
 
 -- the answer that each put gets through the layers
 abbrev pub handed : {L : Type 0} → (L → Extent → View) → List L → Model → Refuses → Refuses
@@ -20,11 +29,6 @@ handed view (l ∷ ls) m bottom = answers (view l (extent_of (laid view ls m))) 
 -- the whole meaning of the layers over a sheet; one layer more is `over` once more
 abbrev pub piled : {L : Type 0} → (L → Extent → View) → List L → State → State
 piled view ls s = state (laid view ls s.model) (handed view ls s.model s.refuses)
-
--- what hold checks if there is a number, and else what free checks
-abbrev pub held_refusal : Model → ℕ → Option ℤ → Option ℕ
-held_refusal m c None = free_refusal m c
-held_refusal m c (Some k) = hold_refusal m c k
 
 -- a system of this extent, for what is told by the counts alone
 abbrev pub blank_of : Extent → Model

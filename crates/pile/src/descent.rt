@@ -1,17 +1,30 @@
 // The way down through the layers of a pile, the topmost first, and back.
-ghost use Rattle.std.specs.Prelude.{◌≡◌, true};
-ghost use Rattle.interval.specs.Refusals.{unless, Answers, Changes};
-ghost use Rattle.system.specs.Reading.{has_place, has_column, held_within};
-ghost use Rattle.system.specs.Writing.{state, Puts, holding};
-ghost use Rattle.layer.specs.Views.{extent_of, own_refusal, signed as signed_of};
+ghost use Rattle.std.specs.Prelude.{◌≡◌, true, cond, [], ◌∷◌, neg_ℤ, MatchOption};
+ghost use Rattle.interval.specs.Directed.{in_limit as in_limit_of};
+ghost use Rattle.interval.specs.Refusals.{unless, Answers};
+ghost use Rattle.system.specs.Reading.{max_held, has_place};
+ghost use Rattle.system.specs.Writing.{state, Puts};
+ghost use Rattle.layer.specs.Views.{extent_of, own_refusal};
 ghost use Rattle.layer.specs.Shapes.{extent};
-ghost use Rattle.pile.specs.Piles.{laid, piled, held_refusal, blank_of, lowered_by};
+ghost use Rattle.pile.specs.Piles.{laid, piled, landed, blank_of, lowered_by};
 
-use interval::{Interval, Refusal, in_limit};
-use layer::{InLimit, Layer, Shape};
-use system::{MAX_HELD, PutFault, Sheet, System};
+use interval::{Interval, Refusal};
+use layer::{Layer, Shape};
+use system::{Counts, InLimit, PutFault, Sheet, System};
 
-const MAX_REACH: u64 = 10_000_000;
+// Layers over a bottom, the topmost first, to be read.
+#[derive(Drop)]
+pub(crate) struct Stack<'a, L, S> {
+    layers: &'a [L],
+    bottom: &'a S,
+}
+
+// The bottom's column that a column stands for, and whether a number at which that is held is shown negated.
+#[derive(Clone, Copy)]
+pub struct Landing {
+    pub column: usize,
+    pub negated: bool,
+}
 
 // What a layer hands down of a put.
 #[derive(Clone, Copy)]
@@ -21,55 +34,81 @@ pub struct Lowered {
     pub value: Interval,
 }
 
-pub(crate) fn shape_at<L: Layer, S: System>(layers: &[L], bottom: &S) -> Shape
-    ensures { extent result ≡ extent_of (laid L.Layer.view layers.now (S.System.meaning bottom.now)) }
-{
-    let Some((top, rest)) = layers.split_first() else {
-        return Shape {
-            rows: bottom.rows(),
-            columns: bottom.columns(),
-            reach: bottom.reach(),
+impl<'a, L: Layer, S: System> Stack<'a, L, S> {
+    pub(crate) fn new(layers: &'a [L], bottom: &'a S) -> Stack<'a, L, S>
+        ensures { (result.layers.now ≡ layers.now) × (result.bottom.now ≡ bottom.now) }
+    {
+        Stack { layers, bottom }
+    }
+
+    pub(crate) fn shape(&self) -> Shape
+        ensures { extent result ≡ extent_of (laid L.Layer.view self.now.layers.now (S.System.meaning self.now.bottom.now)) }
+    {
+        let bottom = Shape {
+            counts: Counts {
+                rows: self.bottom.rows(),
+                columns: self.bottom.columns(),
+            },
+            reach: self.bottom.reach(),
         };
-    };
-    let below = shape_at(rest, bottom);
-    Shape {
-        rows: below.rows,
-        columns: below.columns,
-        reach: top.reach(below),
+        self.layers.iter().rev().fold(
+            bottom,
+            |below, top| Shape {
+                counts: below.counts,
+                reach: top.reach(below),
+            },
+        )
+    }
+
+    pub(crate) fn cell(&self, row: usize, column: usize) -> Result<Interval, Refusal>
+        ensures { let m = laid L.Layer.view self.now.layers.now (S.System.meaning self.now.bottom.now) in Answers (unless (has_place m row column) 2) (m.cell row column) result }
+    {
+        let Some((top, rest)) = self.split_first() else {
+            return self.bottom.cell(row, column);
+        };
+        let below = rest.shape();
+        let cell = rest.cell(top.row(below, row), top.column(below, column))?;
+        Ok(top.shown(below, row, column, InLimit { cell }))
+    }
+
+    pub(crate) fn landing(&self, column: usize) -> Landing
+        ensures { result ≡ landed L.Layer.view self.now.layers.now (S.System.meaning self.now.bottom.now) column }
+    {
+        let Some((top, rest)) = self.split_first() else {
+            return Landing {
+                column,
+                negated: false,
+            };
+        };
+        let below = rest.shape();
+        let landing = rest.landing(top.column(below, column));
+        Landing {
+            column: landing.column,
+            negated: top.negated(below, column) != landing.negated,
+        }
+    }
+
+    // The topmost layer, and the stack under it.
+    fn split_first(&self) -> Option<(&'a L, Stack<'a, L, S>)>
+        ensures { MatchOption result (self.now.layers.now ≡ []) (λ p. (self.now.layers.now ≡ p.0.now ∷ p.1.layers.now) × (p.1.bottom.now ≡ self.now.bottom.now)) }
+    {
+        let (top, layers) = self.layers.split_first()?;
+        Some((top, Stack::new(layers, self.bottom)))
     }
 }
 
-pub(crate) fn cell_at<L: Layer, S: System>(
-    layers: &[L],
-    bottom: &S,
-    row: usize,
-    column: usize,
-) -> Result<Interval, Refusal>
-    ensures { Answers (unless (has_place (laid L.Layer.view layers.now (S.System.meaning bottom.now)) row column) 2) ((laid L.Layer.view layers.now (S.System.meaning bottom.now)).cell row column) result }
-{
-    let Some((top, rest)) = layers.split_first() else {
-        return bottom.cell(row, column);
-    };
-    let below = shape_at(rest, bottom);
-    let (column_below, _) = top.column(below, column);
-    let cell = cell_at(rest, bottom, top.row(below, row), column_below)?;
-    Ok(top.shown(below, row, column, InLimit { cell }))
-}
-
-pub(crate) fn held_at<L: Layer, S: System>(
-    layers: &[L],
-    bottom: &S,
-    column: usize,
-) -> Result<Option<i64>, Refusal>
-    ensures { Answers (unless (has_column (laid L.Layer.view layers.now (S.System.meaning bottom.now)) column) 2) ((laid L.Layer.view layers.now (S.System.meaning bottom.now)).held column) result }
-{
-    let Some((top, rest)) = layers.split_first() else {
-        return bottom.held(column);
-    };
-    let below = shape_at(rest, bottom);
-    let (column_below, negated) = top.column(below, column);
-    let number = held_at(rest, bottom, column_below)?;
-    Ok(signed(number, negated))
+impl Landing {
+    // A held number, passed on or negated. The one number that has no negative is outside the limit, and stays so.
+    pub(crate) fn signed(self, number: i64) -> i64
+        ensures size { in_limit_of max_held result ≡ in_limit_of max_held number }
+        ensures value { in_limit_of max_held number ≡ true → result ≡ cond self.negated (neg_ℤ number) number }
+    {
+        if self.negated {
+            number.saturating_neg()
+        } else {
+            number
+        }
+    }
 }
 
 pub(crate) fn put_at<L: Layer, S: Sheet>(
@@ -82,81 +121,12 @@ pub(crate) fn put_at<L: Layer, S: Sheet>(
     ensures { Puts row column value (piled L.Layer.view layers.now (state (S.System.meaning bottom.old) (S.Sheet.refuses bottom.old))) (piled L.Layer.view layers.now (state (S.System.meaning bottom.new) (S.Sheet.refuses bottom.new))) result }
 {
     let Some((top, rest)) = layers.split_first() else {
-        return match bottom.put(row, column, value) {
-            Ok(()) => Ok(()),
-            Err(fault) => Err(fault),
-        };
+        return bottom.put(row, column, value);
     };
-    let below = shape_at(rest, bottom);
-    match lower(top, below, row, column, value) {
-        Ok(lowered) => match put_at(rest, bottom, lowered.row, lowered.column, lowered.value) {
-            Ok(()) => Ok(()),
-            Err(fault) => Err(fault.raised()),
-        },
-        Err(refusal) => Err(PutFault::at(refusal, row, column)),
-    }
-}
-
-// Holds a column at a number, or frees it if there is none.
-pub(crate) fn set_held_at<L: Layer, S: Sheet>(
-    layers: &[L],
-    bottom: &mut S,
-    column: usize,
-    number: Option<i64>,
-) -> Result<(), Refusal>
-    ensures { Changes (held_refusal (laid L.Layer.view layers.now (S.System.meaning bottom.old)) column number) (holding column number) (piled L.Layer.view layers.now (state (S.System.meaning bottom.old) (S.Sheet.refuses bottom.old))) (piled L.Layer.view layers.now (state (S.System.meaning bottom.new) (S.Sheet.refuses bottom.new))) result }
-{
-    let Some((top, rest)) = layers.split_first() else {
-        return hold_or_free(bottom, column, number);
-    };
-    let below = shape_at(rest, bottom);
-    if column >= below.columns {
-        return Err(Refusal::NoSuchPlace);
-    }
-    if !may_hold(number) {
-        return Err(Refusal::OutsideLimit);
-    }
-    let (column_below, negated) = top.column(below, column);
-    match set_held_at(rest, bottom, column_below, signed(number, negated)) {
-        Ok(()) => Ok(()),
-        Err(refusal) => Err(refusal),
-    }
-}
-
-fn hold_or_free<S: Sheet>(bottom: &mut S, column: usize, number: Option<i64>) -> Result<(), Refusal>
-    ensures { Changes (held_refusal (S.System.meaning bottom.old) column number) (holding column number) (state (S.System.meaning bottom.old) (S.Sheet.refuses bottom.old)) (state (S.System.meaning bottom.new) (S.Sheet.refuses bottom.new)) result }
-{
-    match number {
-        Some(k) => match bottom.hold(column, k) {
-            Ok(()) => Ok(()),
-            Err(refusal) => Err(refusal),
-        },
-        None => match bottom.free(column) {
-            Ok(()) => Ok(()),
-            Err(refusal) => Err(refusal),
-        },
-    }
-}
-
-// Whether a column may be held at the number.
-fn may_hold(number: Option<i64>) -> bool
-    ensures { result ≡ held_within number }
-{
-    match number {
-        Some(k) => in_limit(k, MAX_HELD),
-        None => true,
-    }
-}
-
-// A held number, passed on or negated.
-fn signed(number: Option<i64>, negated: bool) -> Option<i64>
-    requires { held_within number ≡ true }
-    ensures { result ≡ signed_of negated number }
-{
-    match number {
-        Some(k) if negated => Some(-k),
-        _ => number,
-    }
+    let below = Stack::new(rest, bottom).shape();
+    let lowered = lower(top, below, row, column, value);
+    let lowered = lowered.map_err(|refusal| PutFault::at(refusal, row, column))?;
+    put_at(rest, bottom, lowered.row, lowered.column, lowered.value).map_err(PutFault::raised)
 }
 
 // The checks that every sheet makes first, then the layer's own rule.
@@ -169,17 +139,11 @@ fn lower<L: Layer>(
 ) -> Result<Lowered, Refusal>
     ensures { Answers (own_refusal (L.Layer.view top.now (extent below)) (blank_of (extent below)) row column value) (lowered_by (L.Layer.view top.now (extent below)) row column value) result }
 {
-    if row >= below.rows || column >= below.columns {
-        return Err(Refusal::NoSuchPlace);
-    }
-    if !value.within(MAX_REACH) {
-        return Err(Refusal::OutsideLimit);
-    }
-    let lowered = top.lowered(below, row, column, InLimit { cell: value })?;
-    let (column_below, _) = top.column(below, column);
+    below.counts.place(row, column)?;
+    let lowered = top.lowered(below, row, column, InLimit::try_from(value)?)?;
     Ok(Lowered {
         row: top.row(below, row),
-        column: column_below,
+        column: top.column(below, column),
         value: lowered.cell,
     })
 }

@@ -3,7 +3,7 @@ ghost use Rattle.std.specs.Prelude.{◌≡◌};
 ghost use Rattle.pile.specs.Piles.{laid, handed};
 ghost use Rattle.pile.specs.Laws.{bounded_laid, checks_handed, places_handed};
 
-use crate::descent::{cell_at, held_at, put_at, set_held_at, shape_at};
+use crate::descent::{Stack, put_at};
 use interval::{Interval, Refusal};
 use layer::Layer;
 use system::{PutFault, Sheet, System};
@@ -31,15 +31,17 @@ impl<L: Layer, S: System> System for Pile<L, S> {
     }
 
     fn reach(&self) -> u64 {
-        shape_at(self.layers.as_slice(), &self.bottom).reach
+        self.stack().shape().reach
     }
 
     fn cell(&self, row: usize, column: usize) -> Result<Interval, Refusal> {
-        cell_at(self.layers.as_slice(), &self.bottom, row, column)
+        self.stack().cell(row, column)
     }
 
     fn held(&self, column: usize) -> Result<Option<i64>, Refusal> {
-        held_at(self.layers.as_slice(), &self.bottom, column)
+        let landing = self.stack().landing(column);
+        let number = self.bottom.held(landing.column)?;
+        Ok(number.map(|number| landing.signed(number)))
     }
 }
 
@@ -51,28 +53,24 @@ impl<L: Layer, S: Sheet> Sheet for Pile<L, S> {
     ghost places = { λ p. places_handed L.Layer.view p.layers.items (S.System.meaning p.bottom) (S.Sheet.refuses p.bottom) (S.Sheet.places p.bottom) };
 
     fn put(&mut self, row: usize, column: usize, value: Interval) -> Result<(), PutFault> {
-        match put_at(self.layers.as_slice(), &mut self.bottom, row, column, value) {
-            Ok(()) => Ok(()),
-            Err(fault) => Err(fault),
-        }
+        put_at(&self.layers, &mut self.bottom, row, column, value)
     }
 
     fn hold(&mut self, column: usize, number: i64) -> Result<(), Refusal> {
-        match set_held_at(
-            self.layers.as_slice(),
-            &mut self.bottom,
-            column,
-            Some(number),
-        ) {
-            Ok(()) => Ok(()),
-            Err(refusal) => Err(refusal),
-        }
+        let landing = self.stack().landing(column);
+        self.bottom.hold(landing.column, landing.signed(number))
     }
 
     fn free(&mut self, column: usize) -> Result<(), Refusal> {
-        match set_held_at(self.layers.as_slice(), &mut self.bottom, column, None) {
-            Ok(()) => Ok(()),
-            Err(refusal) => Err(refusal),
-        }
+        let landing = self.stack().landing(column);
+        self.bottom.free(landing.column)
+    }
+}
+
+impl<L: Layer, S: System> Pile<L, S> {
+    fn stack(&self) -> Stack<'_, L, S>
+        ensures { (result.layers.now ≡ self.now.layers.items) × (result.bottom.now ≡ self.now.bottom) }
+    {
+        Stack::new(&self.layers, &self.bottom)
     }
 }
