@@ -5,7 +5,7 @@ use Rattle.interval.specs.Refusals.{unless}
 use Rattle.system.specs.Reading.{Model}
 use Rattle.layer.specs.Views.{Extent, View, layered}
 use Rattle.layers.specs.declared.mirror.Mirror.{Mirror}
-use Rattle.layers.specs.declared.mirror.ops.Mark.{Mark}
+use Rattle.layers.specs.declared.mirror.Mark.{Mark}
 
 -- a mirror's settings: the columns that are marked, and the count of columns that this was made for
 pub record Marks : Type 0 where

@@ -4,6 +4,5 @@
 mod mirror;
 mod turnover;
 
-pub use mirror::Mirror;
-pub use mirror::ops::Mark;
+pub use mirror::{Mark, Mirror};
 pub use turnover::Turnover;

@@ -4,17 +4,18 @@ ghost use Rattle.layers.specs.Turnover.{turned, TurnoverLaw};
 ghost use Rattle.std.proofs.Common.{rules};
 
 use interval::{Interval, Refusal};
-use layer::{InLimit, Layer, Shape};
+use layer::{Layer, Shape};
+use system::InLimit;
 
 // It has no settings.
-#[derive(Clone, Copy)]
-pub struct Turnover {}
+#[derive(Clone, Copy, PartialEq, Eq, Debug)]
+pub struct Turnover;
 
 impl Turnover {
     pub fn new() -> Turnover
         ensures { TurnoverLaw }
     {
-        Turnover {}
+        Turnover
     }
 }
 
@@ -31,8 +32,12 @@ impl Layer for Turnover {
         row
     }
 
-    fn column(&self, below: Shape, column: usize) -> (usize, bool) {
-        (column, false)
+    fn column(&self, below: Shape, column: usize) -> usize {
+        column
+    }
+
+    fn negated(&self, below: Shape, column: usize) -> bool {
+        false
     }
 
     fn shown(&self, below: Shape, row: usize, column: usize, value: InLimit) -> Interval {

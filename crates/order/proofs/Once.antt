@@ -1,52 +1,45 @@
 -- Numbers below n that are placed apart among themselves: each is named once.
-use Rattle.std.proofs.Common.{◌≡◌, ℕ, zero, suc, ◌<◌, cond, eqb, ◌⊎◌, inl, inr, sym, ap, ◌∙◌, arith, ⊎_elim}
-use Rattle.std.proofs.lemmas.Bool.Decides.{nat_tests}
-use Rattle.std.proofs.lemmas.Bool.{cases_eq}
+use Rattle.std.proofs.Common.{◌≡◌, ℕ, ◌<◌, ◌≢◌, eqb, map, length, get_or, true, false, true≢false, sym, ◌∙◌, arith, ⊎_elim, List, ◌∷◌}
+use Rattle.std.specs.List.{list_any, range_with_len}
+use Rattle.std.proofs.lemmas.Bool.{cases_Bool, eq-eqb, eqb-true}
+use Rattle.std.proofs.lemmas.Bool.Decides.{Decides-eqb}
+use Rattle.std.proofs.lemmas.List.Folds.{Any-from_list_any, list_any_at}
+use Rattle.std.proofs.lemmas.List.FromFn.{length-map-range_with_len, get_or-map-range_with_len}
+use Rattle.std.proofs.lemmas.List.Kept.{AllPairs-cons}
+use Rattle.std.proofs.lemmas.Map.Made.{IsDistinct-from_AllPairs}
+use Rattle.std.proofs.lemmas.Map.Steps.{length-le_from_distinct_below}
 use Rattle.order.specs.Tables.{NamesOnce}
 
--- f with its value n turned into k
-abbrev squeezed : (n k : ℕ) → (ℕ → ℕ) → ℕ → ℕ
-squeezed n k f j = cond (eqb (f j) n) k (f j)
+module _ (n : ℕ) (f : ℕ → ℕ) (below : (j : ℕ) → j < n → f j < n) (apart : (i j : ℕ) → f i ≡ f j → i ≡ j) where
+  -- where the first n are placed
+  abbrev taken : List ℕ
+  taken = map f (range_with_len 0 n)
 
-squeezed_below : (n k : ℕ) (f : ℕ → ℕ) (j : ℕ) → f j < suc n → k < suc n → (f j ≡ k → ⊥) → squeezed n k f j < n
-squeezed_below n k f j less few other = grind (arith, nat_tests)
+  long : length taken ≡ n
+  long = length-map-range_with_len f 0 n
 
-squeezed_apart : (n k : ℕ) (f : ℕ → ℕ) (i j : ℕ) → (f i ≡ k → ⊥) → (f j ≡ k → ⊥) → squeezed n k f i ≡ squeezed n k f j → f i ≡ f j
-squeezed_apart n k f i j other_i other_j same = grind (arith, nat_tests)
+  at : (j d : ℕ) → j < n → get_or taken j d ≡ f j
+  at j d less = get_or-map-range_with_len f 0 n j j d less (omega arith)
 
--- n + 1 numbers cannot be placed apart below n
-no_room : (n : ℕ) (f : ℕ → ℕ) → ((j : ℕ) → j < suc n → f j < n) → ((i j : ℕ) → i < suc n → j < suc n → f i ≡ f j → i ≡ j) → ⊥
-no_room zero f below apart = let h : f 0 < 0 = below 0 (omega arith) in omega arith
-no_room (suc n) f below apart =
-    let other : (j : ℕ) → j < suc n → f j ≡ f (suc n) → ⊥ = λ j h e. let z : j ≡ suc n = apart j (suc n) (omega arith) (omega arith) e in omega arith in
-    no_room n (squeezed n (f (suc n)) f)
-    (λ j h. squeezed_below n (f (suc n)) f j (below j (omega arith)) (below (suc n) (omega arith)) (other j h))
-    (λ i j hi hj e. apart i j (omega arith) (omega arith) (squeezed_apart n (f (suc n)) f i j (other i hi) (other j hj) e))
+  -- a number that stands in the list is the place of one of them
+  named : (k : ℕ) → list_any (eqb k) taken ≡ true → (j : ℕ) × (j < n) × (f j ≡ k)
+  named k e =
+      let w = Any-from_list_any (eqb k) taken e in
+      let less : w.0 < n = omega (arith, long, w.2) in
+      (w.0, less, sym (at w.0 w.1 less) ∙ w.3 ∙ sym (eqb-true k w.1 w.4))
 
--- the first of m numbers that f places at k, or none
-found : (f : ℕ → ℕ) (k m : ℕ) → ((j : ℕ) × ((j < m) × (f j ≡ k))) ⊎ ((j : ℕ) → j < m → f j ≡ k → ⊥)
-found f k zero = inr (λ j h e. omega arith)
-found f k (suc m) =
-    ⊎_elim
-    (λ (here : f m ≡ k). inl (m, (omega arith, here)))
-    (λ (other : f m ≡ k → ⊥).
-    ⊎_elim
-    (λ (w : (j : ℕ) × ((j < m) × (f j ≡ k))). inl (w.0, (omega arith, w.1.1)))
-    (λ (none : (j : ℕ) → j < m → f j ≡ k → ⊥). inr (λ j h e. ⊎_elim (λ (z : j ≡ m). other (sym (ap f z) ∙ e)) (λ (z : j ≡ m → ⊥). none j (omega arith) e) (cases_eq j m)))
-    (found f k m))
-    (cases_eq (f m) k)
+  -- n numbers that are apart leave none out: with one more there would be too many
+  not_missed : (k : ℕ) → k < n → list_any (eqb k) taken ≡ false → ⊥
+  not_missed k less missed =
+      let other : (j d : ℕ) → j < length taken → k ≢ get_or taken j d = λ j d h e. true≢false (sym (list_any_at (eqb k) taken j d h (eq-eqb k (get_or taken j d) e)) ∙ missed) in
+      let others : (i j d : ℕ) → i < j → j < length taken → get_or taken i d ≢ get_or taken j d = λ i j d lt h e. let same = apart i j (sym (at i d (omega (arith, long))) ∙ e ∙ at j d (omega (arith, long))) in omega arith in
+      let distinct = IsDistinct-from_AllPairs Decides-eqb (k ∷ taken) (AllPairs-cons (λ x y. x ≢ y) k taken other others) in
+      let inside : (q : ℕ) → list_any (eqb q) (k ∷ taken) ≡ true → q < n = λ q has. ⊎_elim (λ e. omega (arith, eqb-true q k e)) (λ e. let w = named q (rw e at has) in omega (arith, below w.0 w.1, w.2)) (cases_Bool (eqb q k)) in
+      omega (arith, long, length-le_from_distinct_below (k ∷ taken) n distinct inside)
 
--- so none that is below n is left out
-not_missed : (n k : ℕ) (f : ℕ → ℕ) → ((j : ℕ) → j < n → f j < n) → ((i j : ℕ) → f i ≡ f j → i ≡ j) → k < n → ((j : ℕ) → j < n → f j ≡ k → ⊥) → ⊥
-not_missed zero k f below apart less missed = omega arith
-not_missed (suc n) k f below apart less missed =
-    no_room n (squeezed n k f)
-    (λ j h. squeezed_below n k f j (below j h) less (missed j h))
-    (λ i j hi hj e. apart i j (squeezed_apart n k f i j (missed i hi) (missed j hj) e))
-
-pub once : (n : ℕ) (f : ℕ → ℕ) → ((j : ℕ) → j < n → f j < n) → ((i j : ℕ) → f i ≡ f j → i ≡ j) → NamesOnce n f
-once n f below apart = λ k less.
-    ⊎_elim
-    (λ (w : (j : ℕ) × ((j < n) × (f j ≡ k))). (w.0, (w.1.0, w.1.1, λ i e. apart i w.0 (e ∙ sym w.1.1))))
-    (λ (none : (j : ℕ) → j < n → f j ≡ k → ⊥). absurd (not_missed n k f below apart less none))
-    (found f k n)
+  pub once : NamesOnce n f
+  once k less =
+      ⊎_elim
+      (λ e. let w = named k e in (w.0, (w.1, w.2, λ i h. apart i w.0 (h ∙ sym w.2))))
+      (λ e. absurd (not_missed k less e))
+      (cases_Bool (list_any (eqb k) taken))

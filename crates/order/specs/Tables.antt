@@ -3,10 +3,10 @@ use Rattle.std.specs.Prelude.{◌≡◌, ℕ, ◌<◌, Bool, false, cond, ◌&&�
 use Rattle.interval.specs.Refusals.{unless}
 use Rattle.system.specs.Reading.{Model}
 use Rattle.layer.specs.Views.{Extent, extent_of, View, layered}
-use Rattle.order.specs.declared.tables.Places.{Places}
+use Rattle.order.specs.declared.places.Places.{Places}
 use Rattle.order.specs.declared.tables.Order.{Order}
-use Rattle.order.specs.declared.tables.ops.Exchange.{Exchange}
-use Rattle.order.specs.declared.tables.ops.Exchange.TheVariants.{Rows, Columns}
+use Rattle.order.specs.declared.tables.Exchange.{Exchange}
+use Rattle.order.specs.declared.tables.Exchange.TheVariants.{Rows, Columns}
 use Rattle.order.specs.Places.{placed, swapped}
 
 -- an order's settings: the row and the column below that each row and column stands for, and the counts that this was made for

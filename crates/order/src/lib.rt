@@ -1,7 +1,7 @@
 // The order: a layer that shows rows and columns in another order.
 #![tactic(auto)]
 
+mod places;
 mod tables;
 
-pub use tables::Order;
-pub use tables::ops::Exchange;
+pub use tables::{Exchange, Order};
