@@ -10,6 +10,7 @@ use Rattle.std.proofs.lemmas.Bool.Decides.{nat_tests}
 use Rattle.interval.specs.declared.directed.Interval.{Interval}
 use Rattle.interval.specs.Directed.{nought}
 use Rattle.interval.specs.declared.limited.Limited.{Limited}
+use Rattle.interval.specs.Limited.{interval_of}
 use Rattle.cells.specs.declared.parts.part.Part.{Part}
 use Rattle.cells.specs.declared.parts.PartTable.{PartTable}
 use Rattle.system.specs.declared.places.Place.{Place}
@@ -36,9 +37,9 @@ rest_one p ps e = (and_parts (is_empty p || is_nought (cell_in ps p.place.row p.
 -- where no place has two parts, as many parts stand in the slots as are read
 pub parts_stand : (ps : List Part) → one_part ps ≡ true → parts_in (cell_in ps) ≡ standing ps
 parts_stand [] one = parts_none
-parts_stand (p ∷ ps) one = grind (arith, nat_tests, parts_raised (cell_in ps) (cell_in (p ∷ ps)) p.place.row p.place.column (count p.value.cell) p.place.few_rows p.place.few_columns each, parts_stand ps (rest_one p ps one))
+parts_stand (p ∷ ps) one = grind (arith, nat_tests, parts_raised (cell_in ps) (cell_in (p ∷ ps)) p.place.row p.place.column (count (interval_of p.value)) p.place.few_rows p.place.few_columns each, parts_stand ps (rest_one p ps one))
   where
-    each : (i j : ℕ) → count (cell_in (p ∷ ps) i j) ≡ count (cell_in ps i j) + cond (i == p.place.row && j == p.place.column) (count p.value.cell) 0
+    each : (i j : ℕ) → count (cell_in (p ∷ ps) i j) ≡ count (cell_in ps i j) + cond (i == p.place.row && j == p.place.column) (count (interval_of p.value)) 0
     each i j = grind (arith, nat_tests)
 
 -- ---- the first slot that passes a test
@@ -59,7 +60,7 @@ first_passes test (p ∷ ps) less = grind (arith, nat_tests, first_passes test p
 
 module _ (r c : ℕ) where
   abbrev Stands : List Part → ℕ → Type 0
-  Stands ps i = (i < length ps) × (stands_at r c (slice_index_or ps i empty) ≡ true) × (cell_in ps r c ≡ (get_or ps i empty).value.cell)
+  Stands ps i = (i < length ps) × (stands_at r c (slice_index_or ps i empty) ≡ true) × (cell_in ps r c ≡ interval_of (get_or ps i empty).value)
 
   stands_first : (ps : List Part) → Passes (stands_at r c) ps (Stands ps) (cell_in ps r c ≡ nought)
   stands_first [] = (λ less. absurd (omega arith), λ _. refl)
@@ -123,9 +124,9 @@ module _ (place : Place) where
   ready_found (p ∷ ps) (suc i) one e = (grind (arith, nat_tests, nought_is (cell_in ps r c), none_at ps i), ready_found ps i (rest_one p ps one) e)
 
   module _ (q : Part) (at_row : q.place.row ≡ r) (at_column : q.place.column ≡ c) where
-    put_cell : (ps : List Part) (i : ℕ) → Ready ps i → (a b : ℕ) → cell_in (slice_set ps i q) a b ≡ with_value r c q.value.cell (cell_in ps) a b
+    put_cell : (ps : List Part) (i : ℕ) → Ready ps i → (a b : ℕ) → cell_in (slice_set ps i q) a b ≡ with_value r c (interval_of q.value) (cell_in ps) a b
     put_cell [] i h a b = absurd h
-    put_cell (p ∷ ps) zero h a b = grind (arith, nat_tests, nought_is q.value.cell)
+    put_cell (p ∷ ps) zero h a b = grind (arith, nat_tests, nought_is (interval_of q.value))
     put_cell (p ∷ ps) (suc i) h a b = grind (arith, nat_tests, put_cell ps i h.1 a b)
 
     put_one : (ps : List Part) (i : ℕ) → Ready ps i → one_part ps ≡ true → one_part (slice_set ps i q) ≡ true
@@ -142,13 +143,13 @@ module _ (place : Place) where
     pub apart : one_part after ≡ true
 
   module _ (t : PartTable) (i : ℕ) where
-    by_slot : (q : Part) → q.place.row ≡ r → q.place.column ≡ c → Ready t.parts i → parts_rule (table_cell t) r c q.value.cell ≡ None → Put t q.value.cell (slice_set t.parts i q)
+    by_slot : (q : Part) → q.place.row ≡ r → q.place.column ≡ c → Ready t.parts i → parts_rule (table_cell t) r c (interval_of q.value) ≡ None → Put t (interval_of q.value) (slice_set t.parts i q)
     by_slot q at_row at_column ready accepted = record { accepted = accepted; cells_are = λ k a b. put_cell q at_row at_column t.parts i ready a b k; apart = put_one q at_row at_column t.parts i ready t.apart }
 
-    pub by_rewrite : (d : Part) (v : Limited bottom_reach) → i < length t.parts → Found t.parts r c (Some i) → Put t v.cell (slice_set t.parts i (part (slice_index_or t.parts i d).place v))
+    pub by_rewrite : (d : Part) (v : Limited bottom_reach) → i < length t.parts → Found t.parts r c (Some i) → Put t (interval_of v) (slice_set t.parts i (part (slice_index_or t.parts i d).place v))
     by_rewrite d v inside found =
         let same = get_or_default t.parts i d empty inside in
         by_slot (part (slice_index_or t.parts i d).place v) (grind (arith, nat_tests, same)) (grind (arith, nat_tests, same)) (ready_found t.parts i t.apart found.1) (grind (arith, nat_tests))
 
-    pub by_fill : (v : Limited bottom_reach) → Found t.parts r c None → Room t (Some i) → Put t v.cell (slice_set t.parts i (part place v))
+    pub by_fill : (v : Limited bottom_reach) → Found t.parts r c None → Room t (Some i) → Put t (interval_of v) (slice_set t.parts i (part place v))
     by_fill v none room = by_slot (part place v) refl refl (ready_vacant t.parts i room.1 room.2 none) (grind (arith, nat_tests))

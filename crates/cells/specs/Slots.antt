@@ -3,6 +3,7 @@ use Rattle.std.specs.Prelude.{◌≡◌, ℕ, suc, ◌<◌, Bool, true, cond, no
 use Rattle.interval.specs.declared.directed.Interval.{Interval}
 use Rattle.interval.specs.Directed.{nought}
 use Rattle.interval.specs.declared.limited.Limited.{Limited}
+use Rattle.interval.specs.Limited.{interval_of}
 use Rattle.system.specs.declared.places.Place.{Place}
 use Rattle.system.specs.Places.{corner}
 use Rattle.cells.specs.declared.parts.part.Part.{Part}
@@ -18,7 +19,7 @@ abbrev pub empty : Part
 empty = part corner blank
 
 abbrev pub is_empty : Part → Bool
-is_empty p = is_nought p.value.cell
+is_empty p = is_nought (interval_of p.value)
 
 -- a part stands at the place
 abbrev pub stands_at : ℕ → ℕ → Part → Bool
@@ -27,7 +28,7 @@ stands_at r c p = not (is_empty p) && (p.place.row == r && p.place.column == c)
 -- the interval at a place: of the part that stands there, or else (0, 0)
 abbrev pub cell_in : List Part → ℕ → ℕ → Interval
 cell_in [] r c = nought
-cell_in (p ∷ ps) r c = cond (stands_at r c p) p.value.cell (cell_in ps r c)
+cell_in (p ∷ ps) r c = cond (stands_at r c p) (interval_of p.value) (cell_in ps r c)
 
 -- how many parts stand
 abbrev pub standing : List Part → ℕ
@@ -41,5 +42,5 @@ one_part (p ∷ ps) = (is_empty p || is_nought (cell_in ps p.place.row p.place.c
 
 -- the slot of the part that stands at a place, or nothing where none does
 abbrev pub Found : List Part → ℕ → ℕ → Option ℕ → Type 0
-Found ps r c (Some i) = (i < 128) × (stands_at r c (slice_index_or ps i empty) ≡ true) × (cell_in ps r c ≡ (get_or ps i empty).value.cell)
+Found ps r c (Some i) = (i < 128) × (stands_at r c (slice_index_or ps i empty) ≡ true) × (cell_in ps r c ≡ interval_of (get_or ps i empty).value)
 Found ps r c None = cell_in ps r c ≡ nought

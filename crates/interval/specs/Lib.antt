@@ -4,3 +4,4 @@ pub mod Classes
 pub mod Arithmetic
 pub mod Laws
 pub mod Examples
+pub mod Limited

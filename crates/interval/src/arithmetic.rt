@@ -1,6 +1,6 @@
 // Kaucher's arithmetic. Each call takes numbers within ±1,000,000,000, refuses others, and answers both ends together.
 ghost use Rattle.std.specs.Prelude.{◌≡◌, ◌&&◌};
-ghost use Rattle.interval.specs.Refusals.{unless, Answers, Gives};
+ghost use Rattle.interval.specs.Refusals.{unless, Answers};
 ghost use Rattle.interval.specs.Directed.{in_limit as in_limit_of, within as within_of};
 ghost use Rattle.interval.specs.Arithmetic.{limit, ends, by_class, opposite as opposite_of, sum as sum_of, multiple as multiple_of, product as product_of};
 ghost use Rattle.interval.specs.Laws.{SumLaws, MultipleLaws, ProductLaws};
@@ -8,7 +8,7 @@ ghost use Rattle.interval.specs.Examples.{Examples};
 
 use crate::classes::Class;
 use crate::directed::Interval;
-use crate::operands::Operand;
+use crate::operands::{Operand, Operands};
 use crate::refusals::Refusal;
 
 impl Interval {
@@ -16,8 +16,8 @@ impl Interval {
     pub fn opposite(self) -> Result<(i64, i64), Refusal>
         ensures { Answers (unless (within_of limit self) 3) (ends (opposite_of self)) result }
     {
-        let (a, b) = self.operands()?;
-        Ok(((-b).value, (-a).value))
+        let opposite = -Operands::try_from(self)?;
+        Ok((opposite.first.value, opposite.second.value))
     }
 
     #[tactic(auto, using(crate::proofs::Laws::sum_laws))]
@@ -25,9 +25,8 @@ impl Interval {
         ensures value { Answers (unless (within_of limit self && within_of limit other) 3) (ends (sum_of self other)) result }
         ensures laws { SumLaws }
     {
-        let (a, b) = self.operands()?;
-        let (c, d) = other.operands()?;
-        Ok((a + c, b + d))
+        let (x, y) = (Operands::try_from(self)?, Operands::try_from(other)?);
+        Ok((x.first + y.first, x.second + y.second))
     }
 
     // The whole number `t` times the interval. A negative one makes the ends change places.
@@ -37,11 +36,11 @@ impl Interval {
         ensures laws { MultipleLaws }
     {
         let factor = Operand::try_from(t)?;
-        let (a, b) = self.operands()?;
+        let x = Operands::try_from(self)?;
         Ok(if t < 0 {
-            (b * factor, a * factor)
+            (x.second * factor, x.first * factor)
         } else {
-            (a * factor, b * factor)
+            (x.first * factor, x.second * factor)
         })
     }
 
@@ -52,29 +51,20 @@ impl Interval {
         ensures examples { Examples }
     {
         let classes = (self.class(), other.class());
-        Ok(product_by(classes, self.operands()?, other.operands()?))
-    }
-
-    // Both ends, where they are within the limit.
-    fn operands(self) -> Result<(Operand, Operand), Refusal>
-        ensures { Gives (unless (within_of limit self) 3) (λ n. (n.0.value ≡ self.first) × (n.1.value ≡ self.second)) result }
-    {
-        Ok((
-            Operand::try_from(self.first)?,
-            Operand::try_from(self.second)?,
+        Ok(product_by(
+            classes,
+            Operands::try_from(self)?,
+            Operands::try_from(other)?,
         ))
     }
 }
 
 // The sixteen cases of the two classes.
-fn product_by(
-    classes: (Class, Class),
-    left: (Operand, Operand),
-    right: (Operand, Operand),
-) -> (i64, i64)
-    ensures { result ≡ ends (by_class classes.0 classes.1 left.0.value left.1.value right.0.value right.1.value) }
+fn product_by(classes: (Class, Class), left: Operands, right: Operands) -> (i64, i64)
+    ensures { result ≡ ends (by_class classes.0 classes.1 left.first.value left.second.value right.first.value right.second.value) }
 {
-    let ((a, b), (c, d)) = (left, right);
+    let (a, b) = (left.first, left.second);
+    let (c, d) = (right.first, right.second);
     use Class::NonNegative as P;
     use Class::NonPositive as N;
     use Class::SpreadThroughZero as Z;

@@ -34,8 +34,6 @@ impl<const LIMIT: u64> Neg for Number<LIMIT> {
     ghost neg_gives = { λ x r. r.value ≡ neg_ℤ x.value };
 
     fn neg(self) -> Number<LIMIT> {
-        Number {
-            value: -self.value,
-        }
+        Number { value: -self.value }
     }
 }

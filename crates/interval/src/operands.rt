@@ -1,12 +1,15 @@
 // Numbers that one operation does not bring beyond 64 bits.
 ghost use Rattle.std.specs.Prelude.{◌≡◌, ◌+ℤ◌, ◌*ℤ◌};
 
+use crate::limited::Limited;
 use crate::numbers::Number;
 use std::ops::{Add, Mul};
 
 const LIMIT: u64 = 1_000_000_000;
 
 pub(crate) type Operand = Number<LIMIT>;
+
+pub(crate) type Operands = Limited<LIMIT>;
 
 impl Add for Operand {
     type Output = i64;

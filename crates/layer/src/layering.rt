@@ -3,6 +3,7 @@ ghost use Rattle.std.specs.Prelude.{◌≡◌, Result};
 ghost use Rattle.layer.specs.declared.settings.SettingFault.{SettingFault as Fault};
 ghost use Rattle.layer.specs.Views.{Extent, View, Lawful};
 ghost use Rattle.interval.specs.Refusals.{Gives};
+ghost use Rattle.interval.specs.Limited.{interval_of};
 ghost use Rattle.layer.specs.Shapes.{extent};
 
 use crate::settings::SettingFault;
@@ -32,7 +33,7 @@ pub trait Layer {
 
     // What a row and a column show of the interval below.
     fn shown(&self, below: Shape, row: usize, column: usize, value: InLimit) -> Interval
-        ensures { result ≡ (view self.now (extent below)).shown row column value.cell };
+        ensures { result ≡ (view self.now (extent below)).shown row column (interval_of value) };
 
     // What goes down of an interval that is put there, unless the layer's own rule refuses it.
     fn lowered(
@@ -42,7 +43,7 @@ pub trait Layer {
         column: usize,
         value: InLimit,
     ) -> Result<InLimit, Refusal>
-        ensures { Gives ((view self.now (extent below)).refusal row column value.cell) (λ y. y.cell ≡ (view self.now (extent below)).lowered row column value.cell) result };
+        ensures { Gives ((view self.now (extent below)).refusal row column (interval_of value)) (λ y. interval_of y ≡ (view self.now (extent below)).lowered row column (interval_of value)) result };
 
     ghost lawful: { (l : Self) (e : Extent) → Lawful e (view l e) };
 }

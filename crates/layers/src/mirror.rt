@@ -1,6 +1,5 @@
 // The mirror: in a marked column a cell shows its opposite, and a held number is negated.
 ghost use Rattle.std.specs.Prelude.{◌≡◌, ℕ, ◌≤◌, false};
-ghost use Rattle.interval.specs.Arithmetic.{opposite as opposite_of};
 ghost use Rattle.layer.specs.Settings.{Sets};
 ghost use Rattle.layer.specs.Shapes.{extent};
 ghost use Rattle.system.specs.Reading.{max_count};
@@ -68,12 +67,6 @@ impl Mirror {
     }
 }
 
-fn opposite(value: InLimit) -> Interval
-    ensures { result ≡ opposite_of value.cell }
-{
-    Interval::from(value.cell.opposite().unwrap())
-}
-
 impl Layer for Mirror {
     ghost use Rattle.layers.specs.Mirror.{marks_of, mirrored};
 
@@ -99,9 +92,9 @@ impl Layer for Mirror {
 
     fn shown(&self, below: Shape, row: usize, column: usize, value: InLimit) -> Interval {
         if self.marked(below, column) {
-            opposite(value)
+            (-value).interval()
         } else {
-            value.cell
+            value.interval()
         }
     }
 
@@ -112,13 +105,11 @@ impl Layer for Mirror {
         column: usize,
         value: InLimit,
     ) -> Result<InLimit, Refusal> {
-        if self.marked(below, column) {
-            Ok(InLimit {
-                cell: opposite(value),
-            })
+        Ok(if self.marked(below, column) {
+            -value
         } else {
-            Ok(value)
-        }
+            value
+        })
     }
 }
 

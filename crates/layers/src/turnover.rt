@@ -41,7 +41,7 @@ impl Layer for Turnover {
     }
 
     fn shown(&self, below: Shape, row: usize, column: usize, value: InLimit) -> Interval {
-        value.cell.dual()
+        value.dual().interval()
     }
 
     fn lowered(
@@ -51,8 +51,6 @@ impl Layer for Turnover {
         column: usize,
         value: InLimit,
     ) -> Result<InLimit, Refusal> {
-        Ok(InLimit {
-            cell: value.cell.dual(),
-        })
+        Ok(value.dual())
     }
 }

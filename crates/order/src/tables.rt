@@ -91,7 +91,7 @@ impl Layer for Order {
     }
 
     fn shown(&self, below: Shape, row: usize, column: usize, value: InLimit) -> Interval {
-        value.cell
+        value.interval()
     }
 
     fn lowered(

@@ -1,14 +1,15 @@
 // The way down through the layers of a pile, the topmost first, and back.
 ghost use Rattle.std.specs.Prelude.{◌≡◌, true, cond, [], ◌∷◌, neg_ℤ, MatchOption};
-ghost use Rattle.interval.specs.Directed.{in_limit as in_limit_of};
+ghost use Rattle.interval.specs.Directed.{in_limit as in_limit_of, within as within_of};
+ghost use Rattle.interval.specs.Limited.{interval_of};
 ghost use Rattle.interval.specs.Refusals.{unless, Answers};
-ghost use Rattle.system.specs.Reading.{max_held, has_place};
+ghost use Rattle.system.specs.Reading.{max_held, max_reach, has_place};
 ghost use Rattle.system.specs.Writing.{state, Puts};
 ghost use Rattle.layer.specs.Views.{extent_of, own_refusal};
 ghost use Rattle.layer.specs.Shapes.{extent};
 ghost use Rattle.pile.specs.Piles.{laid, piled, landed, blank_of, lowered_by};
 
-use interval::{Interval, Refusal};
+use interval::{Interval, Limited, Number, Refusal};
 use layer::{Layer, Shape};
 use system::{Counts, InLimit, PutFault, Sheet, System};
 
@@ -68,7 +69,7 @@ impl<'a, L: Layer, S: System> Stack<'a, L, S> {
         };
         let below = rest.shape();
         let cell = rest.cell(top.row(below, row), top.column(below, column))?;
-        Ok(top.shown(below, row, column, InLimit { cell }))
+        Ok(top.shown(below, row, column, within_limit(cell)))
     }
 
     pub(crate) fn landing(&self, column: usize) -> Landing
@@ -111,6 +112,17 @@ impl Landing {
     }
 }
 
+// A cell that some system shows, which is within its reach.
+fn within_limit(cell: Interval) -> InLimit
+    requires { within_of max_reach cell ≡ true }
+    ensures { interval_of result ≡ cell }
+{
+    Limited {
+        first: Number { value: cell.first },
+        second: Number { value: cell.second },
+    }
+}
+
 pub(crate) fn put_at<L: Layer, S: Sheet>(
     layers: &[L],
     bottom: &mut S,
@@ -144,6 +156,6 @@ fn lower<L: Layer>(
     Ok(Lowered {
         row: top.row(below, row),
         column: top.column(below, column),
-        value: lowered.cell,
+        value: lowered.interval(),
     })
 }

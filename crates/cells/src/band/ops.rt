@@ -72,7 +72,7 @@ impl Cells for Band {
 
     fn get(&self, place: Place) -> Interval {
         if self.keeps(place) {
-            self.cells[self.slot(place)].cell
+            self.cells[self.slot(place)].interval()
         } else {
             NOUGHT
         }

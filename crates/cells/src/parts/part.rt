@@ -2,7 +2,7 @@
 ghost use Rattle.std.specs.Prelude.{◌≡◌};
 ghost use Rattle.cells.specs.Slots.{is_empty as is_empty_of, stands_at as stands_at_of};
 
-use crate::keeping::{BLANK, InReach, NOUGHT};
+use crate::keeping::{BLANK, InReach};
 use system::Place;
 
 pub const SLOTS: usize = 128;
@@ -23,7 +23,7 @@ impl Part {
     pub(crate) fn is_empty(&self) -> bool
         ensures { result ≡ is_empty_of self.now }
     {
-        self.value.cell == NOUGHT
+        self.value == BLANK
     }
 
     pub(crate) fn stands_at(&self, place: Place) -> bool
