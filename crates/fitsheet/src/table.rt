@@ -46,6 +46,7 @@ fn lines_of<S: System>(heap: Global, sheet: &S) -> Result<Vec<Line>, AllocError>
                 .try_collect(heap)?,
         },
     ]?;
+    // A sheet is asked by the numbers of its rows; there is no list of them.
     for row in 0..sheet.rows() {
         lines.push(Line {
             head: format!(in heap; "  row {row:2}")?,
@@ -57,6 +58,7 @@ fn lines_of<S: System>(heap: Global, sheet: &S) -> Result<Vec<Line>, AllocError>
     Ok(lines)
 }
 
+// A text, and not an `impl Display`, since it is padded as a whole.
 fn cell_text<S: System>(
     heap: Global,
     sheet: &S,

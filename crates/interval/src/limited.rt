@@ -26,7 +26,7 @@ impl<const LIMIT: u64> Limited<LIMIT> {
         }
     }
 
-    // The interval turned over.
+    // The interval turned over. One text with `Interval::dual` would put a type parameter on the type of every cell.
     pub fn dual(self) -> Limited<LIMIT>
         ensures { interval_of result ≡ dual_of (interval_of self.entry) }
     {

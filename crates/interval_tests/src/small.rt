@@ -2,6 +2,7 @@
 // Kaucher's operations mean, by enumeration: the first end is the least that the spreads can force where the trims
 // answer for the greatest, and the second end the greatest that they can force where the trims answer for the least.
 use interval::{Class, Interval, Kind};
+use std::ops::RangeInclusive;
 use std::process::Abort;
 use std::test::Fail;
 
@@ -54,25 +55,22 @@ impl Extreme {
     }
 }
 
+// The numbers from one end to the other.
+fn numbers(x: Interval) -> RangeInclusive<i64> {
+    x.first.min(x.second)..=x.first.max(x.second)
+}
+
 // What `y` makes of the number `s`.
 fn answered(s: i64, op: Operation, y: Interval, wanted: Extreme) -> Option<i64> {
-    let mut best = None;
-    for t in y.first.min(y.second)..=y.first.max(y.second) {
-        best = wanted.aim(y).of(best, op.of(s, t));
-    }
-    best
+    numbers(y).fold(None, |best, t| wanted.aim(y).of(best, op.of(s, t)))
 }
 
 // What is forced where spreads come before trims.
 fn forced(x: Interval, op: Operation, y: Interval, wanted: Extreme) -> Option<i64> {
     let (x, y) = if x.first > x.second { (y, x) } else { (x, y) };
-    let mut best = None;
-    for s in x.first.min(x.second)..=x.first.max(x.second) {
-        if let Some(n) = answered(s, op, y, wanted) {
-            best = wanted.aim(x).of(best, n);
-        }
-    }
-    best
+    numbers(x)
+        .filter_map(|s| answered(s, op, y, wanted))
+        .fold(None, |best, n| wanted.aim(x).of(best, n))
 }
 
 fn check_forced(rt: &impl Abort, ends: (i64, i64), x: Interval, op: Operation, y: Interval) {

@@ -13,6 +13,8 @@ use system::InLimit;
 
 // A value of such a type is the settings of a layer. `view` is what a layer with them shows of a system below it, by that
 // system's counts and reach; settings that don't fit these act as they do at first.
+// Each layer answers every call itself, also where it changes nothing: the promise is about its own view, so that a body
+// given here could be proved for no layer.
 pub trait Layer {
     ghost view: { Self → Extent → View };
 

@@ -9,7 +9,7 @@ use interval::{Interval, Refusal};
 use layer::{Layer, Settable, SettingFault, Shape};
 use system::{InLimit, MAX_COUNT};
 
-// The columns that are marked, and the count of columns that this was made for.
+// The columns that are marked, and the count of columns that this was made for. A layer's settings take no memory from the heap.
 #[derive(Clone, Copy)]
 pub struct Mirror {
     marks: [bool; MAX_COUNT],
@@ -17,7 +17,7 @@ pub struct Mirror {
     ghost few: { columns ≤ max_count },
 }
 
-// Marks a column, or takes its mark off.
+// Marks a column, or takes its mark off: the flag is the mark itself, and no sign of whether there is a column.
 #[derive(Clone, Copy, PartialEq, Eq, Debug)]
 pub struct Mark {
     pub column: usize,

@@ -7,7 +7,7 @@ ghost use Rattle.order.specs.Places.{placed, swapped};
 use interval::Refusal;
 use system::MAX_COUNT;
 
-// The place of each number; a number that is not below `count` is its own.
+// The place of each number; a number that is not below `count` is its own. A layer's settings take no memory from the heap.
 #[derive(Clone, Copy)]
 pub struct Places {
     at: [usize; MAX_COUNT],

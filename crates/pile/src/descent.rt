@@ -20,7 +20,8 @@ pub(crate) struct Stack<'a, L, S> {
     bottom: &'a S,
 }
 
-// The bottom's column that a column stands for, and whether a number at which that is held is shown negated.
+// The bottom's column that a column stands for, and whether a number at which that is held is shown negated: the flag is a
+// sign, and not whether there is a column.
 #[derive(Clone, Copy)]
 pub struct Landing {
     pub column: usize,

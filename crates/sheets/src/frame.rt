@@ -7,12 +7,13 @@ ghost use Rattle.system.specs.Counts.{counts_refusal};
 ghost use Rattle.sheets.specs.Frame.{frame_model, blank, Placed};
 
 use interval::Refusal;
-use system::{Counts, Held, Place};
+use system::{Counts, Held, MAX_COUNT, Place};
 
+// A sheet takes no memory from the heap once it is made, so the columns have an array.
 #[derive(Drop)]
 pub struct Frame {
     counts: Counts,
-    held: [Option<Held>; 64],
+    held: [Option<Held>; MAX_COUNT],
 }
 
 impl Frame {
@@ -22,7 +23,7 @@ impl Frame {
     {
         Frame {
             counts,
-            held: [None; 64],
+            held: [None; MAX_COUNT],
         }
     }
 

@@ -12,6 +12,7 @@ use std::alloc::{AllocError, Global};
 pub type Full = Bottom<Grid>;
 
 impl Full {
+    // Each kind has a `new` of its own: they differ in what they ask of memory, and a trait for making cells would be longer.
     pub fn new(heap: Global) -> Result<Full, AllocError>
         ensures { IfOk result (λ s. full_of s ≡ ruled (blank 1 1) grid_rule) }
     {

@@ -1,4 +1,4 @@
-// The banded sheet: which cells it keeps.
+// The banded sheet: which cells it keeps. Rows and columns are asked by their numbers, so the loops run over numbers.
 use crate::making::{NOUGHT, ONE, banded_sheet, check_own, fault, put_own};
 use sheets::Banded;
 use std::process::Abort;

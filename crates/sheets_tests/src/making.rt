@@ -17,7 +17,7 @@ pub(crate) const ONE: Interval = Interval {
     second: 1,
 };
 
-// The fault of a bottom.
+// The fault of a bottom, by the number that is expected.
 pub(crate) fn fault(number: u8, row: usize, column: usize) -> PutFault {
     PutFault {
         number,

@@ -1,4 +1,4 @@
-// The parts sheet: 128 parts and no more, and slots that are used again.
+// The parts sheet: 128 parts and no more, and slots that are used again. The loops run over the numbers of columns.
 use crate::making::{NOUGHT, ONE, check_own, fault, parts_sheet, put_own};
 use interval::Interval;
 use sheets::Parts;

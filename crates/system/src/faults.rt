@@ -6,7 +6,8 @@ ghost use Rattle.system.specs.Faults.{fault_at, raised as raised_of, fault_text}
 use interval::Refusal;
 use std::fmt;
 
-// The number of the refusal, the layer where it arose (0 is the topmost), and the place as that layer counts.
+// The number of the refusal, the layer where it arose (0 is the topmost), and the place as that layer counts. These are plain
+// numbers by a rule of the project: layers of any kind hand a fault up, and none has to know another's refusals.
 #[derive(Clone, Copy, PartialEq, Eq, Debug)]
 pub struct PutFault {
     pub number: u8,
