@@ -11,7 +11,7 @@ use system::MAX_COUNT;
 #[derive(Clone, Copy)]
 pub struct Places {
     at: [usize; MAX_COUNT],
-    pub count: usize,
+    pub(crate) count: usize,
     ghost few: { count ≤ max_count },
     ghost inside: { (k : ℕ) → nat_lt (placed at count k) count ≡ nat_lt k count },
     ghost apart: { (i j : ℕ) → (placed at count i == placed at count j) ≡ (i == j) },
@@ -21,7 +21,7 @@ impl Places {
     ghost use Rattle.order.specs.Tables.{place_of};
 
     // Each number in its own place.
-    pub fn identity(count: usize) -> Places
+    pub(crate) fn identity(count: usize) -> Places
         requires { count ≤ max_count }
         ensures count { result.count ≡ count }
         ensures places { (k : ℕ) → place_of result k ≡ k }
@@ -32,14 +32,14 @@ impl Places {
         }
     }
 
-    pub fn place(&self, k: usize) -> usize
+    pub(crate) fn place(&self, k: usize) -> usize
         ensures { result ≡ place_of self.now k }
     {
         if k < self.count { self.at[k] } else { k }
     }
 
     // Two of the numbers change places.
-    pub fn exchange(&mut self, i: usize, j: usize) -> Result<(), Refusal>
+    pub(crate) fn exchange(&mut self, i: usize, j: usize) -> Result<(), Refusal>
         ensures count { self.new.count ≡ self.old.count }
         ensures places { Changes (unless (nat_lt i self.old.count && nat_lt j self.old.count) 2) (λ place k. place (swapped i j k)) (place_of self.old) (place_of self.new) result }
     {
