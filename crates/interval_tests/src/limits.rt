@@ -1,6 +1,7 @@
 // The limit of ±1,000,000,000, one beyond it, and the least and the greatest i64.
-use interval::{Class, Interval, Kind, Refusal};
+use interval::{Class, Interval, Kind, Limited, NoSuchRefusal, Number, Refusal};
 use std::process::Abort;
+use std::test::Fail;
 
 const LIMIT: i64 = 1_000_000_000;
 
@@ -76,4 +77,45 @@ fn at_the_ends_of_i64(rt: HostRuntime) {
         Interval::from((i64::MIN, i64::MIN)).class(),
         Class::NonPositive
     );
+}
+
+#[test]
+fn numbers_within_5(rt: HostRuntime) {
+    for n in [-5, -1, 0, 5] {
+        assert_eq!(rt; Number::<5>::try_from(n), Ok(Number { value: n }));
+    }
+    for n in [-6, 6, i64::MIN, i64::MAX] {
+        assert_eq!(rt; Number::<5>::try_from(n), Err(Refusal::OutsideLimit));
+    }
+}
+
+#[test]
+fn intervals_within_5(rt: HostRuntime) -> Result<(), Fail> {
+    let x = Limited::<5>::try_from(Interval::from((2, -5)))?;
+    assert_eq!(rt; x.interval(), Interval::from((2, -5)));
+    assert_eq!(rt; x.dual().interval(), Interval::from((-5, 2)));
+    assert_eq!(rt; (-x).interval(), Interval::from((5, -2)));
+    for ends in [(6, 0), (0, 6), (-6, 0), (0, -6), (i64::MIN, i64::MAX)] {
+        assert_eq!(rt;
+            Limited::<5>::try_from(Interval::from(ends)),
+            Err(Refusal::OutsideLimit)
+        );
+    }
+    Ok(())
+}
+
+#[test]
+fn every_byte_as_a_refusal(rt: HostRuntime) {
+    let known = [
+        (2, Refusal::NoSuchPlace),
+        (3, Refusal::OutsideLimit),
+        (5, Refusal::NotKept),
+        (6, Refusal::PartsFull),
+    ];
+    for n in 0..=u8::MAX {
+        match known.iter().find(|(number, _)| *number == n) {
+            Some((_, refusal)) => assert_eq!(rt; Refusal::try_from(n), Ok(*refusal)),
+            None => assert_eq!(rt; Refusal::try_from(n), Err(NoSuchRefusal(n))),
+        }
+    }
 }

@@ -6,6 +6,8 @@ mod band;
 #[cfg(test)]
 mod comparing;
 #[cfg(test)]
+mod counts;
+#[cfg(test)]
 mod holding;
 #[cfg(test)]
 mod limits;
