@@ -1,19 +1,20 @@
 -- The laws of Kaucher's arithmetic.
-use Rattle.std.proofs.Common.{◌≡◌, ℕ, Bool, true, false, cond, ℤ, pos, ◌*ℤ◌, neg_ℤ, ◌≤ℤ◌, ◌<ℤ◌, sym, refl, ap, ◌∙◌, subst, ap₂, inl, inr, arith}
+use Rattle.std.proofs.Common.{◌≡◌, ℕ, ℤ, pos, ◌*ℤ◌, neg_ℤ, ◌≤ℤ◌, ◌<ℤ◌, sym, refl, ap, ◌∙◌, ap₂, inl, inr, arith}
 use lib.IntN.{*ℤ-zero, zero-*ℤ, *ℤ_comm, +ℤ_comm}
 use lib.Signed.{lt_z, ≤ℤ_refl}
 use Rattle.std.specs.Int.{int_min}
 use Rattle.std.proofs.lemmas.Int.{by_lt_z, ints}
+use Rattle.std.proofs.lemmas.Bool.{cond_both}
 use Rattle.interval.specs.declared.directed.Interval.{Interval}
 use Rattle.interval.specs.declared.classes.Class.{Class}
 use Rattle.interval.specs.declared.classes.Class.TheVariants.{NonNegative as P, NonPositive as N, SpreadThroughZero as Z, TrimThroughZero as D}
 use Rattle.interval.specs.Directed.{◌to◌, dual, LiesIn}
-use Rattle.interval.specs.Classes.{class_of}
+use Rattle.interval.specs.Classes.{class_of, Signs}
 use Rattle.interval.specs.Arithmetic.{by_class, opposite, multiple, product}
-use Rattle.interval.specs.Laws.{Proper, four_products, first_by_parts, SumLaws, ProductLaws, Corner, MultipleLaws}
+use Rattle.interval.specs.Laws.{Proper, four_products, SumLaws, ProductLaws, Corner, MultipleLaws}
 use Rattle.interval.specs.Examples.{Examples}
 use Rattle.interval.proofs.Whole.{lin, mono_r, anti_r, neg_times, neg_pos, pos_neg}
-use Rattle.interval.proofs.Signs.{View, is_p, is_n, is_z, is_d, view}
+use Rattle.interval.proofs.Signs.{view_ends}
 use Rattle.interval.proofs.Parts.{weak, by_parts, first_commutes, first_opposite, first_order, first_times}
 
 pub examples : Examples
@@ -33,15 +34,11 @@ of_duals x y = ap dual (by_parts x y) ∙ sym (by_parts (dual x) (dual y))
 of_opposite : (x y : Interval) → product (opposite x) y ≡ opposite (product x y)
 of_opposite x y = by_parts (opposite x) y ∙ ap₂ ◌to◌ (first_opposite x y) (first_opposite (dual x) (dual y)) ∙ sym (ap opposite (by_parts x y))
 
--- the order of two intervals, and of intervals equal to them
-lies : {p q p' q' : Interval} → p ≡ p' → q ≡ q' → LiesIn p' q' → LiesIn p q
-lies {p} {q} {p'} {q'} e f h = subst (λ s. LiesIn s q) (sym e) (subst (λ s. LiesIn p' s) (sym f) h)
-
 left_order : (x y z : Interval) → LiesIn x y → LiesIn (product x z) (product y z)
-left_order x y z h = lies (by_parts x z) (by_parts y z) (first_order x y z h, first_order (dual y) (dual x) (dual z) (h.1, h.0))
+left_order x y z h = rw (by_parts x z, by_parts y z) (first_order x y z h, first_order (dual y) (dual x) (dual z) (h.1, h.0))
 
 right_order : (x y z : Interval) → LiesIn y z → LiesIn (product x y) (product x z)
-right_order x y z h = lies (commutes x y) (commutes x z) (left_order y z x h)
+right_order x y z h = rw (commutes x y, commutes x z) (left_order y z x h)
 
 -- ---- multiples
 
@@ -58,41 +55,18 @@ class_down : (t : ℤ) → t <ℤ pos 0 → class_of (t to t) ≡ N
 class_down t h = grind (arith, ints)
 
 is_product : (t : ℤ) (c : Interval) → multiple t c ≡ product (t to t) c
-is_product t c =
-    by_lt_z t (pos 0)
-    (λ h. multiple_down t c h ∙ down (class_of c) ∙ sym (ap by (class_down t h)))
-    (λ h. multiple_up t c h ∙ up (class_of c) ∙ sym (ap by (class_up t h)))
-  where
-    by : Class → Interval
-    by k = by_class k (class_of c) t t c.first c.second
-
-    flip : (u v : ℤ) → (u *ℤ t to v *ℤ t) ≡ (t *ℤ u to t *ℤ v)
-    flip u v = ap₂ ◌to◌ (*ℤ_comm u t) (*ℤ_comm v t)
-
-    up : (k : Class) → (c.first *ℤ t to c.second *ℤ t) ≡ by_class P k t t c.first c.second
-    up P = flip _ _
-    up N = flip _ _
-    up Z = flip _ _
-    up D = flip _ _
-
-    down : (k : Class) → (c.second *ℤ t to c.first *ℤ t) ≡ by_class N k t t c.first c.second
-    down P = flip _ _
-    down N = flip _ _
-    down Z = flip _ _
-    down D = flip _ _
+is_product t c = grind (arith, ints, *ℤ_comm)
 
 bounded : (c : Interval) (lo hi n : ℤ) → lo ≤ℤ n → n ≤ℤ hi → LiesIn (multiple n c) (product c (lo to hi))
-bounded c lo hi n h k = lies (is_product n c ∙ commutes (n to n) c) refl (right_order c (n to n) (lo to hi) (h, k))
+bounded c lo hi n h k = rw (is_product n c, commutes (n to n) c) (right_order c (n to n) (lo to hi) (h, k))
 
 -- a factor e ≥ 0 goes through the product
 product_times : (x y : Interval) (e : ℕ) → product x (y.first *ℤ pos e to y.second *ℤ pos e) ≡ multiple (pos e) (product x y)
 product_times x y e =
-    by_parts x (y.first *ℤ pos e to y.second *ℤ pos e)
-    ∙ ap₂ ◌to◌ (first_times x y e) (first_times (dual x) (dual y) e)
-    ∙ sym (ap (multiple (pos e)) (by_parts x y) ∙ multiple_up (pos e) (first_by_parts x y to first_by_parts (dual x) (dual y)) (omega (arith, lin)))
+    rw (by_parts x y, by_parts x (y.first *ℤ pos e to y.second *ℤ pos e)) (ap₂ ◌to◌ (first_times x y e) (first_times (dual x) (dual y) e) ∙ sym (multiple_up (pos e) _ (omega (arith, lin))))
 
 bounded_over : (c : Interval) (lo hi n : ℤ) (e : ℕ) → (lo *ℤ pos e) ≤ℤ n → n ≤ℤ (hi *ℤ pos e) → LiesIn (multiple n c) (multiple (pos e) (product c (lo to hi)))
-bounded_over c lo hi n e h k = lies refl (sym (product_times c (lo to hi) e)) (bounded c (lo *ℤ pos e) (hi *ℤ pos e) n h k)
+bounded_over c lo hi n e h k = rw (← product_times c (lo to hi) e) (bounded c (lo *ℤ pos e) (hi *ℤ pos e) n h k)
 
 -- ---- where the ends are reached
 
@@ -108,7 +82,7 @@ module _ (c : Interval) (lo hi : ℤ) (o : lo ≤ℤ hi) where
   first_down t h =
       by_lt_z t (pos 0)
       (λ l. ap (λ x. x.first) (multiple_down t c l))
-      (λ l. let z : t ≡ pos 0 = omega (arith, lin) in ap (λ x. x.first) (multiple_up t c l) ∙ ap (λ x. c.first *ℤ x) z ∙ *ℤ-zero c.first ∙ sym (ap (λ x. c.second *ℤ x) z ∙ *ℤ-zero c.second))
+      (λ l. let z : t ≡ pos 0 = omega (arith, lin) in simp (z, *ℤ-zero))
 
   low_up : pos 0 ≤ℤ lo → Reached (c.first *ℤ lo)
   low_up h = (lo, (≤ℤ_refl lo, o, inl refl), first_up lo h)
@@ -123,41 +97,30 @@ module _ (c : Interval) (lo hi : ℤ) (o : lo ≤ℤ hi) where
   high_down h = (hi, (o, ≤ℤ_refl hi, inr (inr refl)), first_down hi h)
 
   least_of : {s t : ℤ} → Reached s → Reached t → Reached (int_min s t)
-  least_of {s} {t} p q = by (lt_z t s)
-    where
-      by : (b : Bool) → Reached (cond b t s)
-      by true = q
-      by false = p
+  least_of {s} {t} p q = cond_both (lt_z t s) t s Reached (λ _. q) (λ _. p)
 
-  reached_by : (k l : Class) → View c.first c.second k → View lo hi l → Reached (by_class k l c.first c.second lo hi).first
-  reached_by P P v (is_p r s) = low_up r
-  reached_by P Z v (is_z r s) = low_down (weak r)
-  reached_by P N v (is_n r s _) = low_down r
-  reached_by Z P v (is_p r s) = high_up s
-  reached_by Z Z v (is_z r s) = least_of (high_up (weak s)) (low_down (weak r))
-  reached_by Z N v (is_n r s _) = low_down r
-  reached_by N P v (is_p r s) = high_up s
-  reached_by N Z v (is_z r s) = high_up (weak s)
-  reached_by N N v (is_n r s _) = high_down s
-  reached_by D P v (is_p r s) = low_up r
-  reached_by D Z v (is_z r s) = (pos 0, (weak r, weak s, inr (inl refl)), *ℤ-zero c.first)
-  reached_by D N v (is_n r s _) = high_down s
-  reached_by P D v (is_d r s) = absurd (omega (arith, lin))
-  reached_by Z D v (is_d r s) = absurd (omega (arith, lin))
-  reached_by N D v (is_d r s) = absurd (omega (arith, lin))
-  reached_by D D v (is_d r s) = absurd (omega (arith, lin))
+  reached_by : (k l : Class) → Signs l (lo to hi) → Reached (by_class k l c.first c.second lo hi).first
+  reached_by P P (r, s) = low_up r
+  reached_by P Z (r, s) = low_down (weak r)
+  reached_by P N (r, s) = low_down r
+  reached_by Z P (r, s) = high_up s
+  reached_by Z Z (r, s) = least_of (high_up (weak s)) (low_down (weak r))
+  reached_by Z N (r, s) = low_down r
+  reached_by N P (r, s) = high_up s
+  reached_by N Z (r, s) = high_up (weak s)
+  reached_by N N (r, s) = high_down s
+  reached_by D P (r, s) = low_up r
+  reached_by D Z (r, s) = (pos 0, (weak r, weak s, inr (inl refl)), *ℤ-zero c.first)
+  reached_by D N (r, s) = high_down s
+  reached_by k D (r, s) = absurd (omega (arith, lin))
 
 first_reached : (c : Interval) (lo hi : ℤ) → lo ≤ℤ hi → (n : ℤ) × Corner lo hi n × ((multiple n c).first ≡ (product c (lo to hi)).first)
-first_reached c lo hi o = reached_by c lo hi o (class_of c) (class_of (lo to hi)) (view c) (view (lo to hi))
+first_reached c lo hi o = reached_by c lo hi o (class_of c) (class_of (lo to hi)) (view_ends lo hi)
 
 -- ---- the second ends are the first ends of the opposites
 
 multiple_opposite : (t : ℤ) (c : Interval) → multiple t (opposite c) ≡ opposite (multiple t c)
-multiple_opposite t c =
-    is_product t (opposite c)
-    ∙ commutes (t to t) (opposite c)
-    ∙ of_opposite c (t to t)
-    ∙ ap opposite (commutes c (t to t) ∙ sym (is_product t c))
+multiple_opposite t c = grind (arith, ints, neg_times)
 
 second_reached : (c : Interval) (lo hi : ℤ) → lo ≤ℤ hi → (n : ℤ) × Corner lo hi n × ((multiple n c).second ≡ (product c (lo to hi)).second)
 second_reached c lo hi o =
@@ -180,10 +143,7 @@ multiple_laws =
 
 -- a multiple of one begins with the lesser of the products of its ends
 proper_multiple : (x : Interval) (t : ℤ) → Proper x → (multiple t x).first ≡ int_min (x.first *ℤ t) (x.second *ℤ t)
-proper_multiple x t h =
-    by_lt_z t (pos 0)
-    (λ l. ap (λ y. y.first) (multiple_down t x l) ∙ omega (arith, lin, anti_r x.first x.second t (weak l) h))
-    (λ l. ap (λ y. y.first) (multiple_up t x l) ∙ omega (arith, lin, mono_r x.first x.second t l h))
+proper_multiple x t h = grind (arith, lin, anti_r x.first x.second t, mono_r x.first x.second t)
 
 module _ (a b c d : ℤ) (h : a ≤ℤ b) (k : c ≤ℤ d) where
   abbrev first : ℤ
@@ -208,36 +168,24 @@ module _ (a b c d : ℤ) (h : a ≤ℤ b) (k : c ≤ℤ d) where
   first_of_proper = let r = first_reached (a to b) c d k in at_corner r.0 r.1 r.2
 
 of_proper : (x y : Interval) → Proper x → Proper y → product x y ≡ four_products x y
-of_proper x y h k = ap₂ ◌to◌ (first_of_proper a b c d h k) second
-  where
-    a : ℤ
-    a = x.first
-
-    b : ℤ
-    b = x.second
-
-    c : ℤ
-    c = y.first
-
-    d : ℤ
-    d = y.second
-
-    second : (product x y).second ≡ (four_products x y).second
-    second = omega (arith, lin, first_of_proper (neg_ℤ b) (neg_ℤ a) c d (omega (arith, lin)) k, ap (λ z. z.first) (of_opposite x y), neg_times a c, neg_times a d, neg_times b c, neg_times b d)
+of_proper x y h k =
+    let a = x.first in
+    let b = x.second in
+    let c = y.first in
+    let d = y.second in
+    let of_opposites = first_of_proper (neg_ℤ b) (neg_ℤ a) c d (omega (arith, lin)) k in
+    ap₂ ◌to◌ (first_of_proper a b c d h k) (omega (arith, lin, of_opposites, ap (λ z. z.first) (of_opposite x y), neg_times a c, neg_times a d, neg_times b c, neg_times b d))
 
 -- ---- (0, 0)
 
 left_zero : (a b : ℤ) → (pos 0 *ℤ a to pos 0 *ℤ b) ≡ (pos 0 *ℤ b to pos 0 *ℤ a)
-left_zero a b = ap₂ ◌to◌ (zero-*ℤ a ∙ sym (zero-*ℤ b)) (zero-*ℤ b ∙ sym (zero-*ℤ a))
+left_zero a b = simp zero-*ℤ
 
 right_zero : (a b : ℤ) → (a *ℤ pos 0 to b *ℤ pos 0) ≡ (b *ℤ pos 0 to a *ℤ pos 0)
-right_zero a b = ap₂ ◌to◌ (*ℤ-zero a ∙ sym (*ℤ-zero b)) (*ℤ-zero b ∙ sym (*ℤ-zero a))
+right_zero a b = simp *ℤ-zero
 
 zero_by_either : (k : Class) (a b : ℤ) → (by_class P k (pos 0) (pos 0) a b ≡ by_class N k (pos 0) (pos 0) a b) × (by_class k P a b (pos 0) (pos 0) ≡ by_class k N a b (pos 0) (pos 0))
-zero_by_either P a b = (left_zero a b, right_zero a b)
-zero_by_either N a b = (left_zero a b, right_zero a b)
-zero_by_either Z a b = (left_zero a b, right_zero a b)
-zero_by_either D a b = (left_zero a b, right_zero a b)
+zero_by_either k a b = grind (arith, zero-*ℤ, *ℤ-zero)
 
 pub product_laws : ProductLaws
 product_laws =

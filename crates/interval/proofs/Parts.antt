@@ -1,17 +1,17 @@
 -- Lakeyev's formula, and the laws of its one expression.
-use Rattle.std.proofs.Common.{◌≡◌, ℕ, ℤ, pos, ◌-ℤ◌, ◌*ℤ◌, neg_ℤ, ◌≤ℤ◌, ◌<ℤ◌, sym, refl, ap, ◌∙◌, ap₂, arith}
-use lib.IntN.{*ℤ-zero, zero-*ℤ, *ℤ_comm}
+use Rattle.std.proofs.Common.{◌≡◌, ℕ, ℤ, pos, ◌-ℤ◌, ◌*ℤ◌, neg_ℤ, ◌≤ℤ◌, ◌<ℤ◌, refl, ap, ◌∙◌, ap₂, arith}
+use lib.IntN.{*ℤ-zero, zero-*ℤ, *ℤ_comm, neg_ℤ-neg_ℤ}
 use Rattle.std.specs.Int.{int_max}
 use Rattle.std.proofs.lemmas.Int.{by_lt_z}
 use Rattle.interval.specs.declared.directed.Interval.{Interval}
 use Rattle.interval.specs.declared.classes.Class.{Class}
 use Rattle.interval.specs.declared.classes.Class.TheVariants.{NonNegative as P, NonPositive as N, SpreadThroughZero as Z, TrimThroughZero as D}
 use Rattle.interval.specs.Directed.{◌to◌, dual, LiesIn}
-use Rattle.interval.specs.Classes.{class_of}
+use Rattle.interval.specs.Classes.{class_of, Signs}
 use Rattle.interval.specs.Arithmetic.{by_class, opposite, product}
 use Rattle.interval.specs.Laws.{plus, minus, first_by_parts}
 use Rattle.interval.proofs.Whole.{lin, mono_r, pos_pos, times_assoc, times_neg, neg_times, add_times}
-use Rattle.interval.proofs.Signs.{View, is_p, is_n, is_z, is_d, view}
+use Rattle.interval.proofs.Signs.{view_ends}
 
 -- the four products of the parts of x and y
 record Parts (x y pp mm pm mp : ℤ) : Type 0 where
@@ -81,26 +81,26 @@ module _ (a b c d : ℤ) where
   four : (p : Sign a) (q : Sign b) (r : Sign c) (s : Sign d) → Four p q r s
   four p q r s = record { ac = by_sign a c p r; ad = by_sign a d p s; bc = by_sign b c q r; bd = by_sign b d q s }
 
-  by_class_by_parts : (k l : Class) → View a b k → View c d l → by_class k l a b c d ≡ (first_by_parts (a to b) (c to d) to first_by_parts (b to a) (d to c))
-  by_class_by_parts P P (is_p p q) (is_p r s) = let f = four (up p) (up q) (up r) (up s) in ap₂ ◌to◌ (omega (arith, lin)) (omega (arith, lin))
-  by_class_by_parts P Z (is_p p q) (is_z r s) = let f = four (up p) (up q) (down (weak r)) (up (weak s)) in ap₂ ◌to◌ (omega (arith, lin)) (omega (arith, lin))
-  by_class_by_parts P N (is_p p q) (is_n r s _) = let f = four (up p) (up q) (down r) (down s) in ap₂ ◌to◌ (omega (arith, lin)) (omega (arith, lin))
-  by_class_by_parts P D (is_p p q) (is_d r s) = let f = four (up p) (up q) (up (weak r)) (down (weak s)) in ap₂ ◌to◌ (omega (arith, lin)) (omega (arith, lin))
-  by_class_by_parts Z P (is_z p q) (is_p r s) = let f = four (down (weak p)) (up (weak q)) (up r) (up s) in ap₂ ◌to◌ (omega (arith, lin)) (omega (arith, lin))
-  by_class_by_parts Z Z (is_z p q) (is_z r s) = let f = four (down (weak p)) (up (weak q)) (down (weak r)) (up (weak s)) in ap₂ ◌to◌ (omega (arith, lin)) (omega (arith, lin))
-  by_class_by_parts Z N (is_z p q) (is_n r s _) = let f = four (down (weak p)) (up (weak q)) (down r) (down s) in ap₂ ◌to◌ (omega (arith, lin)) (omega (arith, lin))
-  by_class_by_parts Z D (is_z p q) (is_d r s) = let f = four (down (weak p)) (up (weak q)) (up (weak r)) (down (weak s)) in ap₂ ◌to◌ (omega (arith, lin)) (omega (arith, lin))
-  by_class_by_parts N P (is_n p q _) (is_p r s) = let f = four (down p) (down q) (up r) (up s) in ap₂ ◌to◌ (omega (arith, lin)) (omega (arith, lin))
-  by_class_by_parts N Z (is_n p q _) (is_z r s) = let f = four (down p) (down q) (down (weak r)) (up (weak s)) in ap₂ ◌to◌ (omega (arith, lin)) (omega (arith, lin))
-  by_class_by_parts N N (is_n p q _) (is_n r s _) = let f = four (down p) (down q) (down r) (down s) in ap₂ ◌to◌ (omega (arith, lin)) (omega (arith, lin))
-  by_class_by_parts N D (is_n p q _) (is_d r s) = let f = four (down p) (down q) (up (weak r)) (down (weak s)) in ap₂ ◌to◌ (omega (arith, lin)) (omega (arith, lin))
-  by_class_by_parts D P (is_d p q) (is_p r s) = let f = four (up (weak p)) (down (weak q)) (up r) (up s) in ap₂ ◌to◌ (omega (arith, lin)) (omega (arith, lin))
-  by_class_by_parts D Z (is_d p q) (is_z r s) = let f = four (up (weak p)) (down (weak q)) (down (weak r)) (up (weak s)) in ap₂ ◌to◌ (omega (arith, lin)) (omega (arith, lin))
-  by_class_by_parts D N (is_d p q) (is_n r s _) = let f = four (up (weak p)) (down (weak q)) (down r) (down s) in ap₂ ◌to◌ (omega (arith, lin)) (omega (arith, lin))
-  by_class_by_parts D D (is_d p q) (is_d r s) = let f = four (up (weak p)) (down (weak q)) (up (weak r)) (down (weak s)) in ap₂ ◌to◌ (omega (arith, lin)) (omega (arith, lin))
+  by_class_by_parts : (k l : Class) → Signs k (a to b) → Signs l (c to d) → by_class k l a b c d ≡ (first_by_parts (a to b) (c to d) to first_by_parts (b to a) (d to c))
+  by_class_by_parts P P (p, q) (r, s) = let f = four (up p) (up q) (up r) (up s) in grind (arith, lin)
+  by_class_by_parts P Z (p, q) (r, s) = let f = four (up p) (up q) (down (weak r)) (up (weak s)) in grind (arith, lin)
+  by_class_by_parts P N (p, q) (r, s) = let f = four (up p) (up q) (down r) (down s) in grind (arith, lin)
+  by_class_by_parts P D (p, q) (r, s) = let f = four (up p) (up q) (up (weak r)) (down (weak s)) in grind (arith, lin)
+  by_class_by_parts Z P (p, q) (r, s) = let f = four (down (weak p)) (up (weak q)) (up r) (up s) in grind (arith, lin)
+  by_class_by_parts Z Z (p, q) (r, s) = let f = four (down (weak p)) (up (weak q)) (down (weak r)) (up (weak s)) in grind (arith, lin)
+  by_class_by_parts Z N (p, q) (r, s) = let f = four (down (weak p)) (up (weak q)) (down r) (down s) in grind (arith, lin)
+  by_class_by_parts Z D (p, q) (r, s) = let f = four (down (weak p)) (up (weak q)) (up (weak r)) (down (weak s)) in grind (arith, lin)
+  by_class_by_parts N P (p, q) (r, s) = let f = four (down p) (down q) (up r) (up s) in grind (arith, lin)
+  by_class_by_parts N Z (p, q) (r, s) = let f = four (down p) (down q) (down (weak r)) (up (weak s)) in grind (arith, lin)
+  by_class_by_parts N N (p, q) (r, s) = let f = four (down p) (down q) (down r) (down s) in grind (arith, lin)
+  by_class_by_parts N D (p, q) (r, s) = let f = four (down p) (down q) (up (weak r)) (down (weak s)) in grind (arith, lin)
+  by_class_by_parts D P (p, q) (r, s) = let f = four (up (weak p)) (down (weak q)) (up r) (up s) in grind (arith, lin)
+  by_class_by_parts D Z (p, q) (r, s) = let f = four (up (weak p)) (down (weak q)) (down (weak r)) (up (weak s)) in grind (arith, lin)
+  by_class_by_parts D N (p, q) (r, s) = let f = four (up (weak p)) (down (weak q)) (down r) (down s) in grind (arith, lin)
+  by_class_by_parts D D (p, q) (r, s) = let f = four (up (weak p)) (down (weak q)) (up (weak r)) (down (weak s)) in grind (arith, lin)
 
 pub by_parts : (x y : Interval) → product x y ≡ (first_by_parts x y to first_by_parts (dual x) (dual y))
-by_parts x y = by_class_by_parts x.first x.second y.first y.second (class_of x) (class_of y) (view x) (view y)
+by_parts x y = by_class_by_parts x.first x.second y.first y.second (class_of x) (class_of y) (view_ends x.first x.second) (view_ends y.first y.second)
 
 -- ---- the laws of the one expression; the second end of a product is that of the duals
 
@@ -117,23 +117,7 @@ first_commutes x y =
 
 -- the parts of -z are those of z, exchanged
 pub first_opposite : (x y : Interval) → first_by_parts (opposite x) y ≡ neg_ℤ (first_by_parts (dual x) (dual y))
-first_opposite x y =
-    let a = x.first in
-    let b = x.second in
-    let c = y.first in
-    let d = y.second in
-    let pa : plus (neg_ℤ a) ≡ minus a = omega (arith, lin) in
-    let ma : minus (neg_ℤ a) ≡ plus a = omega (arith, lin) in
-    let pb : plus (neg_ℤ b) ≡ minus b = omega (arith, lin) in
-    let mb : minus (neg_ℤ b) ≡ plus b = omega (arith, lin) in
-    omega (
-      arith,
-      lin,
-      ap (λ z. z *ℤ plus c) pb,
-      ap (λ z. z *ℤ minus d) ma,
-      ap (λ z. z *ℤ minus c) pa,
-      ap (λ z. z *ℤ plus d) mb,
-    )
+first_opposite x y = simp neg_ℤ-neg_ℤ (omega (arith, lin))
 
 pub first_order : (x y z : Interval) → LiesIn x y → first_by_parts y z ≤ℤ first_by_parts x z
 first_order x y z h =
@@ -160,27 +144,13 @@ max_times u v e =
     max_right h = omega (arith, lin)
 
 plus_times : (z : ℤ) (e : ℕ) → plus (z *ℤ pos e) ≡ plus z *ℤ pos e
-plus_times z e = ap (λ o. int_max (z *ℤ pos e) o) (sym (zero-*ℤ (pos e))) ∙ max_times z (pos 0) e
+plus_times z e = simp zero-*ℤ at (max_times z (pos 0) e)
 
 minus_times : (z : ℤ) (e : ℕ) → minus (z *ℤ pos e) ≡ minus z *ℤ pos e
-minus_times z e = ap (λ o. plus o) (sym (neg_times z (pos e))) ∙ plus_times (neg_ℤ z) e
+minus_times z e = simp neg_times at (plus_times (neg_ℤ z) e)
 
 sub_times : (m n c : ℤ) → (m -ℤ n) *ℤ c ≡ m *ℤ c -ℤ n *ℤ c
 sub_times m n c = omega (arith, lin, add_times m (neg_ℤ n) c, neg_times n c)
 
--- the two sides of the expression's difference
-abbrev added : Interval → Interval → ℤ
-added x y = int_max (plus x.first *ℤ plus y.first) (minus x.second *ℤ minus y.second)
-
-abbrev taken : Interval → Interval → ℤ
-taken x y = int_max (plus x.second *ℤ minus y.first) (minus x.first *ℤ plus y.second)
-
 pub first_times : (x y : Interval) (e : ℕ) → first_by_parts x (y.first *ℤ pos e to y.second *ℤ pos e) ≡ first_by_parts x y *ℤ pos e
-first_times x y e =
-    ap₂ ◌-ℤ◌
-    (both (plus x.first) (minus x.second) (plus y.first) (minus y.second) (plus_times y.first e) (minus_times y.second e))
-    (both (plus x.second) (minus x.first) (minus y.first) (plus y.second) (minus_times y.first e) (plus_times y.second e))
-    ∙ sym (sub_times (added x y) (taken x y) (pos e))
-  where
-    both : (u v s t : ℤ) {s' t' : ℤ} → s' ≡ s *ℤ pos e → t' ≡ t *ℤ pos e → int_max (u *ℤ s') (v *ℤ t') ≡ int_max (u *ℤ s) (v *ℤ t) *ℤ pos e
-    both u v s t f g = ap₂ int_max (ap (λ z. u *ℤ z) f ∙ sym (times_assoc u s (pos e))) (ap (λ z. v *ℤ z) g ∙ sym (times_assoc v t (pos e))) ∙ max_times (u *ℤ s) (v *ℤ t) e
+first_times x y e = simp (plus_times, minus_times, ← times_assoc, max_times, ← sub_times)
