@@ -5,7 +5,8 @@ use crate::keeping::InReach;
 
 pub mod ops;
 
-// Each row has 18 slots: its column c stands at slot c + 8 − r of row r, and the last column at slot 17.
+// Each row has 18 slots: its column c stands at slot c + 8 − r of row r, and the last column at slot 17. Clauses are by `banding` of the
+// fields, and not by an `impl Model`, as with the grid.
 #[derive(Drop)]
 pub struct Band {
     width: usize,

@@ -5,7 +5,8 @@ use crate::keeping::InReach;
 
 pub mod ops;
 
-// The cell at row r and column c stands at 64 r + c.
+// The cell at row r and column c stands at 64 r + c. Clauses are by `grid_cell` of the fields: an `impl Model` needs a value with a
+// code, and what each place holds is a function.
 #[derive(Drop)]
 pub struct Grid {
     cells: Vec<InReach>,

@@ -11,15 +11,11 @@ use interval::{Interval, Limited, Number, Refusal};
 use system::Place;
 
 // The reach of everything that keeps cells, and a value within it.
-pub const REACH: u64 = 100_000;
+pub const REACH: u32 = 100_000;
 
 pub type InReach = Limited<REACH>;
 
-pub(crate) const NOUGHT: Interval = Interval {
-    first: 0,
-    second: 0,
-};
-
+// A cell (0, 0).
 pub(crate) const BLANK: InReach = Limited {
     first: Number { value: 0 },
     second: Number { value: 0 },

@@ -1,5 +1,5 @@
 -- Each refusal's number, and what a call answers by it.
-use Rattle.std.specs.Prelude.{◌≡◌, ℕ, Bool, cond, List, Some, None, Ok, Err, codes, Option, Result, ◌==◌}
+use Rattle.std.specs.Prelude.{◌≡◌, ℕ, Bool, cond, List, Some, None, Ok, Err, ◌++◌, codes, decimal, Option, Result, ◌==◌}
 use Rattle.interval.specs.declared.refusals.Refusal.{Refusal}
 use Rattle.interval.specs.declared.refusals.NoSuchRefusal.{NoSuchRefusal}
 use Rattle.interval.specs.declared.refusals.Refusal.TheVariants.{NoSuchPlace, OutsideLimit, NotKept, PartsFull}
@@ -24,6 +24,9 @@ text_of NoSuchPlace = codes "there is no such row or column"
 text_of OutsideLimit = codes "a number is outside its limit"
 text_of NotKept = codes "the banded sheet does not keep that cell"
 text_of PartsFull = codes "the parts sheet is full"
+
+abbrev pub no_such_text : ℕ → List ℕ
+no_such_text n = codes "no refusal has the number " ++ decimal n
 
 -- the refusal n, unless a test is met
 abbrev pub unless : Bool → ℕ → Option ℕ

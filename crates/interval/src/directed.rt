@@ -21,6 +21,11 @@ pub enum Kind {
 }
 
 impl Interval {
+    pub const NOUGHT: Interval = Interval {
+        first: 0,
+        second: 0,
+    };
+
     pub fn kind(self) -> Kind
         ensures value { result ≡ kind_of self }
         ensures says { Says result self }

@@ -1,5 +1,5 @@
 // An interval with both ends within a limit.
-ghost use Rattle.std.specs.Prelude.{◌≡◌, ◌^◌, ◌<◌};
+ghost use Rattle.std.specs.Prelude.{◌≡◌};
 ghost use Rattle.interval.specs.Refusals.{unless, Gives};
 ghost use Rattle.interval.specs.Directed.{within as within_of, dual as dual_of};
 ghost use Rattle.interval.specs.Arithmetic.{opposite as opposite_of};
@@ -11,22 +11,14 @@ use crate::refusals::Refusal;
 use std::ops::Neg;
 
 #[derive(Clone, Copy, PartialEq, Eq, Debug)]
-pub struct Limited<const LIMIT: u64> {
+pub struct Limited<const LIMIT: u32> {
     pub first: Number<LIMIT>,
     pub second: Number<LIMIT>,
 }
 
-impl<const LIMIT: u64> Limited<LIMIT> {
-    pub fn interval(self) -> Interval
-        ensures { result ≡ interval_of self.entry }
-    {
-        Interval {
-            first: self.first.value,
-            second: self.second.value,
-        }
-    }
-
-    // The interval turned over. One text with `Interval::dual` would put a type parameter on the type of every cell.
+impl<const LIMIT: u32> Limited<LIMIT> {
+    // The interval turned over. One text with `Interval::dual` would need a struct generic in its ends, and every definition that
+    // speaks of an interval would carry the type of them.
     pub fn dual(self) -> Limited<LIMIT>
         ensures { interval_of result ≡ dual_of (interval_of self.entry) }
     {
@@ -38,10 +30,8 @@ impl<const LIMIT: u64> Limited<LIMIT> {
 }
 
 // The interval of the negatives.
-impl<const LIMIT: u64> Neg for Limited<LIMIT> {
+impl<const LIMIT: u32> Neg for Limited<LIMIT> {
     type Output = Limited<LIMIT>;
-
-    ghost can_neg = { λ _. LIMIT < 2 ^ 63 };
 
     ghost neg_gives = { λ x r. interval_of r ≡ opposite_of (interval_of x) };
 
@@ -53,7 +43,7 @@ impl<const LIMIT: u64> Neg for Limited<LIMIT> {
     }
 }
 
-impl<const LIMIT: u64> TryFrom<Interval> for Limited<LIMIT> {
+impl<const LIMIT: u32> TryFrom<Interval> for Limited<LIMIT> {
     type Error = Refusal;
 
     ghost try_from_gives = { λ x r. Gives (unless (within_of LIMIT x) 3) (λ l. interval_of l ≡ x) r };
@@ -63,5 +53,16 @@ impl<const LIMIT: u64> TryFrom<Interval> for Limited<LIMIT> {
             first: Number::try_from(interval.first)?,
             second: Number::try_from(interval.second)?,
         })
+    }
+}
+
+impl<const LIMIT: u32> From<Limited<LIMIT>> for Interval {
+    ghost from_gives = { λ l x. x ≡ interval_of l };
+
+    fn from(limited: Limited<LIMIT>) -> Interval {
+        Interval {
+            first: limited.first.value,
+            second: limited.second.value,
+        }
     }
 }

@@ -5,7 +5,7 @@ use crate::limited::Limited;
 use crate::numbers::Number;
 use std::ops::{Add, Mul};
 
-const LIMIT: u64 = 1_000_000_000;
+const LIMIT: u32 = 1_000_000_000;
 
 pub(crate) type Operand = Number<LIMIT>;
 

@@ -1,7 +1,8 @@
 // Why a call is refused. Each refusal has a number, and a refused call changes nothing.
 ghost use Rattle.std.specs.Prelude.{◌≡◌, Some};
-ghost use Rattle.interval.specs.Refusals.{number_of, Numbered, text_of};
+ghost use Rattle.interval.specs.Refusals.{number_of, Numbered, text_of, no_such_text};
 
+use std::error::Error;
 use std::fmt;
 
 #[derive(Clone, Copy, PartialEq, Eq, Debug)]
@@ -39,6 +40,18 @@ impl TryFrom<u8> for Refusal {
             6 => Ok(Refusal::PartsFull),
             _ => Err(NoSuchRefusal(number)),
         }
+    }
+}
+
+impl Error for Refusal {}
+
+impl Error for NoSuchRefusal {}
+
+impl fmt::Display for NoSuchRefusal {
+    ghost output = { λ e. Some (no_such_text e.0) };
+
+    fn fmt<W: fmt::Write>(&self, f: &mut fmt::Formatter<W>) -> fmt::Result {
+        write!(f, "no refusal has the number {}", self.0)
     }
 }
 

@@ -92,9 +92,9 @@ fn numbers_within_5(rt: HostRuntime) {
 #[test]
 fn intervals_within_5(rt: HostRuntime) -> Result<(), Fail> {
     let x = Limited::<5>::try_from(Interval::from((2, -5)))?;
-    assert_eq!(rt; x.interval(), Interval::from((2, -5)));
-    assert_eq!(rt; x.dual().interval(), Interval::from((-5, 2)));
-    assert_eq!(rt; (-x).interval(), Interval::from((5, -2)));
+    assert_eq!(rt; Interval::from(x), Interval::from((2, -5)));
+    assert_eq!(rt; Interval::from(x.dual()), Interval::from((-5, 2)));
+    assert_eq!(rt; Interval::from(-x), Interval::from((5, -2)));
     for ends in [(6, 0), (0, 6), (-6, 0), (0, -6), (i64::MIN, i64::MAX)] {
         assert_eq!(rt;
             Limited::<5>::try_from(Interval::from(ends)),
@@ -112,6 +112,7 @@ fn every_byte_as_a_refusal(rt: HostRuntime) {
         (5, Refusal::NotKept),
         (6, Refusal::PartsFull),
     ];
+    // Every number of 8 bits.
     for n in 0..=u8::MAX {
         match known.iter().find(|(number, _)| *number == n) {
             Some((_, refusal)) => assert_eq!(rt; Refusal::try_from(n), Ok(*refusal)),

@@ -9,21 +9,6 @@ use std::test::Fail;
 const ENDS: [i64; 5] = [-2, -1, 0, 1, 2];
 
 #[derive(Clone, Copy)]
-enum Operation {
-    Plus,
-    Times,
-}
-
-impl Operation {
-    fn of(self, s: i64, t: i64) -> i64 {
-        match self {
-            Operation::Plus => s.saturating_add(t),
-            Operation::Times => s.saturating_mul(t),
-        }
-    }
-}
-
-#[derive(Clone, Copy)]
 enum Extreme {
     Least,
     Greatest,
@@ -61,26 +46,56 @@ fn numbers(x: Interval) -> RangeInclusive<i64> {
 }
 
 // What `y` makes of the number `s`.
-fn answered(s: i64, op: Operation, y: Interval, wanted: Extreme) -> Option<i64> {
-    numbers(y).fold(None, |best, t| wanted.aim(y).of(best, op.of(s, t)))
+fn answered<F: Fn(i64, i64) -> i64>(
+    s: i64,
+    operation: &F,
+    y: Interval,
+    wanted: Extreme,
+) -> Option<i64>
+    requires { F.IsAlwaysCallable operation.now }
+{
+    numbers(y).fold(None, |best, t| wanted.aim(y).of(best, operation(s, t)))
 }
 
 // What is forced where spreads come before trims.
-fn forced(x: Interval, op: Operation, y: Interval, wanted: Extreme) -> Option<i64> {
+fn forced<F: Fn(i64, i64) -> i64>(
+    x: Interval,
+    operation: &F,
+    y: Interval,
+    wanted: Extreme,
+) -> Option<i64>
+    requires { F.IsAlwaysCallable operation.now }
+{
     let (x, y) = if x.first > x.second { (y, x) } else { (x, y) };
     numbers(x)
-        .filter_map(|s| answered(s, op, y, wanted))
+        .filter_map(|s| answered(s, operation, y, wanted))
         .fold(None, |best, n| wanted.aim(x).of(best, n))
 }
 
-fn check_forced(rt: &impl Abort, ends: (i64, i64), x: Interval, op: Operation, y: Interval) {
-    assert_eq!(rt; Some(ends.0), forced(x, op, y, Extreme::Least));
-    assert_eq!(rt; Some(ends.1), forced(x, op, y, Extreme::Greatest));
+fn check_forced<F: Fn(i64, i64) -> i64>(
+    rt: &impl Abort,
+    ends: (i64, i64),
+    x: Interval,
+    operation: &F,
+    y: Interval,
+)
+    requires { F.IsAlwaysCallable operation.now }
+{
+    assert_eq!(rt; Some(ends.0), forced(x, operation, y, Extreme::Least));
+    assert_eq!(rt; Some(ends.1), forced(x, operation, y, Extreme::Greatest));
+}
+
+fn plus(s: i64, t: i64) -> i64 {
+    s.saturating_add(t)
+}
+
+fn times(s: i64, t: i64) -> i64 {
+    s.saturating_mul(t)
 }
 
 fn check_pair(rt: &impl Abort, x: Interval, y: Interval) -> Result<(), Fail> {
-    check_forced(rt, x.sum(y)?, x, Operation::Plus, y);
-    check_forced(rt, x.product(y)?, x, Operation::Times, y);
+    check_forced(rt, x.sum(y)?, x, &plus, y);
+    check_forced(rt, x.product(y)?, x, &times, y);
     Ok(())
 }
 
@@ -100,21 +115,9 @@ fn sums_and_products(rt: HostRuntime) -> Result<(), Fail> {
 
 fn check_multiples(rt: &impl Abort, x: Interval) -> Result<(), Fail> {
     for t in ENDS {
-        check_forced(
-            rt,
-            x.multiple(t)?,
-            Interval::from((t, t)),
-            Operation::Times,
-            x,
-        );
+        check_forced(rt, x.multiple(t)?, Interval::from((t, t)), &times, x);
     }
-    check_forced(
-        rt,
-        x.opposite()?,
-        Interval::from((-1, -1)),
-        Operation::Times,
-        x,
-    );
+    check_forced(rt, x.opposite()?, Interval::from((-1, -1)), &times, x);
     Ok(())
 }
 

@@ -1,6 +1,6 @@
 -- What a call that changes a layer's settings does.
-use Rattle.std.specs.Prelude.{◌≡◌, ℕ, Some, None, Ok, Err, Option, Result}
-use Rattle.interval.specs.Refusals.{number_of}
+use Rattle.std.specs.Prelude.{◌≡◌, ℕ, List, Some, None, Ok, Err, codes, Option, Result}
+use Rattle.interval.specs.Refusals.{number_of, text_of}
 use Rattle.layer.specs.declared.settings.SettingFault.{SettingFault}
 use Rattle.layer.specs.declared.settings.SettingFault.TheVariants.{Refused, NoSuchSetting}
 
@@ -8,6 +8,11 @@ use Rattle.layer.specs.declared.settings.SettingFault.TheVariants.{Refused, NoSu
 abbrev pub fault_number : SettingFault → Option ℕ
 fault_number (Refused e) = Some (number_of e)
 fault_number NoSuchSetting = None
+
+-- what is printed of it
+abbrev pub setting_text : SettingFault → List ℕ
+setting_text (Refused e) = text_of e
+setting_text NoSuchSetting = codes "the topmost layer has no such setting"
 
 -- the fault is this refusal
 abbrev pub IsRefused : Option ℕ → SettingFault → Type 0

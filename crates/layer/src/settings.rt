@@ -1,8 +1,11 @@
 // Why a layer's settings are not changed.
-ghost use Rattle.std.specs.Prelude.{◌≡◌};
+ghost use Rattle.std.specs.Prelude.{◌≡◌, Some};
+ghost use Rattle.layer.specs.Settings.{setting_text};
 ghost use Rattle.layer.specs.declared.settings.SettingFault.{SettingFault as Fault};
 
 use interval::Refusal;
+use std::error::Error;
+use std::fmt;
 
 // The layer refuses by a number, or the topmost layer has no such setting.
 #[derive(Clone, Copy, PartialEq, Eq, Debug)]
@@ -16,5 +19,18 @@ impl From<Refusal> for SettingFault {
 
     fn from(refusal: Refusal) -> SettingFault {
         SettingFault::Refused(refusal)
+    }
+}
+
+impl Error for SettingFault {}
+
+impl fmt::Display for SettingFault {
+    ghost output = { λ f. Some (setting_text f) };
+
+    fn fmt<W: fmt::Write>(&self, f: &mut fmt::Formatter<W>) -> fmt::Result {
+        match self {
+            SettingFault::Refused(refusal) => write!(f, "{refusal}"),
+            SettingFault::NoSuchSetting => write!(f, "the topmost layer has no such setting"),
+        }
     }
 }

@@ -1,5 +1,7 @@
 // The mirror: in a marked column a cell shows its opposite, and a held number is negated.
-ghost use Rattle.std.specs.Prelude.{◌≡◌, ℕ, ◌≤◌, false};
+ghost use Rattle.std.specs.Prelude.{◌≡◌, ℕ, ◌≤◌, false, cond};
+ghost use Rattle.interval.specs.Arithmetic.{opposite as opposite_of};
+ghost use Rattle.interval.specs.Limited.{interval_of};
 ghost use Rattle.layer.specs.Settings.{Sets};
 ghost use Rattle.layer.specs.Shapes.{extent};
 ghost use Rattle.system.specs.Reading.{max_count};
@@ -10,10 +12,12 @@ use layer::{Layer, Settable, SettingFault, Shape};
 use system::{InLimit, MAX_COUNT};
 
 // The columns that are marked, and the count of columns that this was made for. A layer's settings take no memory from the heap.
+// Clauses are by `marks_of` of the fields: an `impl Model` needs a value with a code, and which columns are marked is a function.
 #[derive(Clone, Copy)]
 pub struct Mirror {
     marks: [bool; MAX_COUNT],
     columns: usize,
+    // Said here and where one is made, and nowhere else.
     ghost few: { columns ≤ max_count },
 }
 
@@ -54,6 +58,17 @@ impl Mirror {
         self.columns == below.counts.columns && column < self.columns && self.marks[column]
     }
 
+    // A value as a column shows it, or as it goes down through the column.
+    fn reflected(&self, below: Shape, column: usize, value: InLimit) -> InLimit
+        ensures { interval_of result ≡ cond (acts_marked (marks_of self.now) (extent below) column) (opposite_of (interval_of value)) (interval_of value) }
+    {
+        if self.marked(below, column) {
+            -value
+        } else {
+            value
+        }
+    }
+
     // The marks as they act over a system of this shape.
     fn fitted(&self, below: Shape) -> Mirror
         ensures columns { result.columns ≡ below.counts.columns }
@@ -91,11 +106,7 @@ impl Layer for Mirror {
     }
 
     fn shown(&self, below: Shape, row: usize, column: usize, value: InLimit) -> Interval {
-        if self.marked(below, column) {
-            (-value).interval()
-        } else {
-            value.interval()
-        }
+        self.reflected(below, column, value).into()
     }
 
     fn lowered(
@@ -105,11 +116,7 @@ impl Layer for Mirror {
         column: usize,
         value: InLimit,
     ) -> Result<InLimit, Refusal> {
-        Ok(if self.marked(below, column) {
-            -value
-        } else {
-            value
-        })
+        Ok(self.reflected(below, column, value))
     }
 }
 

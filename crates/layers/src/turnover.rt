@@ -41,7 +41,7 @@ impl Layer for Turnover {
     }
 
     fn shown(&self, below: Shape, row: usize, column: usize, value: InLimit) -> Interval {
-        value.dual().interval()
+        value.dual().into()
     }
 
     fn lowered(

@@ -8,10 +8,12 @@ use interval::Refusal;
 use system::MAX_COUNT;
 
 // The place of each number; a number that is not below `count` is its own. A layer's settings take no memory from the heap.
+// Clauses are by `place_of` of the fields: an `impl Model` needs a value with a code, and a permutation of all numbers is a function.
 #[derive(Clone, Copy)]
 pub struct Places {
     at: [usize; MAX_COUNT],
     pub(crate) count: usize,
+    // Said here and where one is made, and nowhere else.
     ghost few: { count ≤ max_count },
     ghost inside: { (k : ℕ) → nat_lt (placed at count k) count ≡ nat_lt k count },
     ghost apart: { (i j : ℕ) → (placed at count i == placed at count j) ≡ (i == j) },

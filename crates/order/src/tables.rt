@@ -91,7 +91,7 @@ impl Layer for Order {
     }
 
     fn shown(&self, below: Shape, row: usize, column: usize, value: InLimit) -> Interval {
-        value.interval()
+        value.into()
     }
 
     fn lowered(
@@ -116,6 +116,7 @@ impl Settable for Order {
             Exchange::Rows(i, j) => next.rows.exchange(i, j)?,
             Exchange::Columns(i, j) => next.columns.exchange(i, j)?,
         }
+        // The tables are written whole.
         *self = next;
         Ok(())
     }

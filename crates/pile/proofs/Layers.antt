@@ -12,7 +12,7 @@ use Rattle.system.specs.Faults.{raised}
 use Rattle.system.specs.Writing.{State, state, Puts, hold_refusal, free_refusal, holding}
 use Rattle.layer.specs.Views.{Extent, View, Lawful, extent_of, through, signed, own_refusal, answers, over}
 use Rattle.pile.specs.declared.descent.Landing.{Landing}
-use Rattle.pile.specs.declared.descent.Lowered.{Lowered}
+use Rattle.pile.specs.declared.descent.Put.{Put}
 use Rattle.pile.specs.Piles.{laid, landed, piled, blank_of, lowered_by}
 
 pub laid_rows : {L : Type 0} (view : L → Extent → View) (ls : List L) (m : Model) → (laid view ls m).rows ≡ m.rows
@@ -41,7 +41,7 @@ handed_up (Ok u) = Ok u
 handed_up (Err f) = Err (raised f)
 
 -- a put through one layer more, which lets it go down
-pub put_over : (view : Extent → View) (before after : State) → Lawful (extent_of before.model) (view (extent_of before.model)) → (e : Extent) → e ≡ extent_of before.model → (r c : ℕ) (x : Interval) (low : Lowered) → Answers (own_refusal (view e) (blank_of e) r c x) (lowered_by (view e) r c x) (Ok low)
+pub put_over : (view : Extent → View) (before after : State) → Lawful (extent_of before.model) (view (extent_of before.model)) → (e : Extent) → e ≡ extent_of before.model → (r c : ℕ) (x : Interval) (low : Put) → Answers (own_refusal (view e) (blank_of e) r c x) (lowered_by (view e) r c x) (Ok low)
     → (q : Result (Unit {0}) PutFault) → Puts low.row low.column low.value before after q → Puts r c x (over view before) (over view after) (handed_up q)
 put_over view before after law e same r c x low goes q done = let shown = put_through (view (extent_of before.model)) before.model law r c x in grind arith
 

@@ -6,7 +6,7 @@ use Rattle.system.specs.Reading.{Model}
 use Rattle.system.specs.Writing.{Refuses, State, state}
 use Rattle.layer.specs.Views.{Extent, View, extent_of, layered, answers}
 use Rattle.pile.specs.declared.descent.Landing.{Landing}
-use Rattle.pile.specs.declared.descent.Lowered.{Lowered}
+use Rattle.pile.specs.declared.descent.Put.{Put}
 
 -- what is read through the layers
 abbrev pub laid : {L : Type 0} → (L → Extent → View) → List L → Model → Model
@@ -35,5 +35,5 @@ abbrev pub blank_of : Extent → Model
 blank_of e = record { rows = e.rows; columns = e.columns; reach = e.reach; cell = λ _ _. nought; held = λ _. None }
 
 -- what a layer hands down of a put
-abbrev pub lowered_by : View → ℕ → ℕ → Interval → Lowered
+abbrev pub lowered_by : View → ℕ → ℕ → Interval → Put
 lowered_by v r c x = record { row = v.row r; column = v.column c; value = v.lowered r c x }

@@ -28,9 +28,9 @@ pub struct Landing {
     pub negated: bool,
 }
 
-// What a layer hands down of a put.
+// What is put, and where: at the top as it was given, and below a layer as that hands it down.
 #[derive(Clone, Copy)]
-pub struct Lowered {
+pub struct Put {
     pub row: usize,
     pub column: usize,
     pub value: Interval,
@@ -62,6 +62,7 @@ impl<'a, L: Layer, S: System> Stack<'a, L, S> {
         )
     }
 
+    // By recursion, since each layer needs the shape of what is below it on the way down, and shows the cell on the way back.
     pub(crate) fn cell(&self, row: usize, column: usize) -> Result<Interval, Refusal>
         ensures { let m = laid L.Layer.view self.now.layers.now (S.System.meaning self.now.bottom.now) in Answers (unless (has_place m row column) 2) (m.cell row column) result }
     {
@@ -73,6 +74,7 @@ impl<'a, L: Layer, S: System> Stack<'a, L, S> {
         Ok(top.shown(below, row, column, within_limit(cell)))
     }
 
+    // By recursion, as `cell`.
     pub(crate) fn landing(&self, column: usize) -> Landing
         ensures { result ≡ landed L.Layer.view self.now.layers.now (S.System.meaning self.now.bottom.now) column }
     {
@@ -113,7 +115,7 @@ impl Landing {
     }
 }
 
-// A cell that some system shows, which is within its reach.
+// A cell that some system shows, which is within its reach: no check is made again.
 fn within_limit(cell: Interval) -> InLimit
     requires { within_of max_reach cell ≡ true }
     ensures { interval_of result ≡ cell }
@@ -124,39 +126,33 @@ fn within_limit(cell: Interval) -> InLimit
     }
 }
 
+// By recursion, since a fault is raised on the way back. The bottom is lent for writing, so no `Stack` holds the two together.
 pub(crate) fn put_at<L: Layer, S: Sheet>(
     layers: &[L],
     bottom: &mut S,
-    row: usize,
-    column: usize,
-    value: Interval,
+    put: Put,
 ) -> Result<(), PutFault>
-    ensures { Puts row column value (piled L.Layer.view layers.now (state (S.System.meaning bottom.old) (S.Sheet.refuses bottom.old))) (piled L.Layer.view layers.now (state (S.System.meaning bottom.new) (S.Sheet.refuses bottom.new))) result }
+    ensures { Puts put.row put.column put.value (piled L.Layer.view layers.now (state (S.System.meaning bottom.old) (S.Sheet.refuses bottom.old))) (piled L.Layer.view layers.now (state (S.System.meaning bottom.new) (S.Sheet.refuses bottom.new))) result }
 {
     let Some((top, rest)) = layers.split_first() else {
-        return bottom.put(row, column, value);
+        return bottom.put(put.row, put.column, put.value);
     };
     let below = Stack::new(rest, bottom).shape();
-    let lowered = lower(top, below, row, column, value);
-    let lowered = lowered.map_err(|refusal| PutFault::at(refusal, row, column))?;
-    put_at(rest, bottom, lowered.row, lowered.column, lowered.value).map_err(PutFault::raised)
+    let lowered = lower(top, below, put);
+    let lowered = lowered.map_err(|refusal| PutFault::at(refusal, put.row, put.column))?;
+    put_at(rest, bottom, lowered).map_err(PutFault::raised)
 }
 
 // The checks that every sheet makes first, then the layer's own rule.
-fn lower<L: Layer>(
-    top: &L,
-    below: Shape,
-    row: usize,
-    column: usize,
-    value: Interval,
-) -> Result<Lowered, Refusal>
-    ensures { Answers (own_refusal (L.Layer.view top.now (extent below)) (blank_of (extent below)) row column value) (lowered_by (L.Layer.view top.now (extent below)) row column value) result }
+fn lower<L: Layer>(top: &L, below: Shape, put: Put) -> Result<Put, Refusal>
+    ensures { Answers (own_refusal (L.Layer.view top.now (extent below)) (blank_of (extent below)) put.row put.column put.value) (lowered_by (L.Layer.view top.now (extent below)) put.row put.column put.value) result }
 {
+    let Put { row, column, value } = put;
     below.counts.place(row, column)?;
     let lowered = top.lowered(below, row, column, InLimit::try_from(value)?)?;
-    Ok(Lowered {
+    Ok(Put {
         row: top.row(below, row),
         column: top.column(below, column),
-        value: lowered.interval(),
+        value: lowered.into(),
     })
 }

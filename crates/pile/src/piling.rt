@@ -3,7 +3,7 @@ ghost use Rattle.std.specs.Prelude.{◌≡◌};
 ghost use Rattle.pile.specs.Piles.{laid, handed};
 ghost use Rattle.pile.specs.Laws.{bounded_laid, checks_handed, places_handed};
 
-use crate::descent::{Stack, put_at};
+use crate::descent::{Put, Stack, put_at};
 use interval::{Interval, Refusal};
 use layer::Layer;
 use system::{PutFault, Sheet, System};
@@ -53,7 +53,7 @@ impl<L: Layer, S: Sheet> Sheet for Pile<L, S> {
     ghost places = { λ p. places_handed L.Layer.view p.layers.items (S.System.meaning p.bottom) (S.Sheet.refuses p.bottom) (S.Sheet.places p.bottom) };
 
     fn put(&mut self, row: usize, column: usize, value: Interval) -> Result<(), PutFault> {
-        put_at(&self.layers, &mut self.bottom, row, column, value)
+        put_at(&self.layers, &mut self.bottom, Put { row, column, value })
     }
 
     fn hold(&mut self, column: usize, number: i64) -> Result<(), Refusal> {

@@ -53,10 +53,7 @@ impl Walk {
         ensures { IfOk result (Walked terms.now) }
     {
         let mut steps = Vec::new(heap);
-        let mut sum = Interval {
-            first: 0,
-            second: 0,
-        };
+        let mut sum = Interval::NOUGHT;
         for term in terms {
             match term.add_to(sum) {
                 Ok(step) => {

@@ -12,6 +12,7 @@ use crate::frame::Frame;
 use cells::Band;
 use interval::Refusal;
 use std::alloc::{AllocError, Global};
+use system::Counts;
 
 pub type Banded = Bottom<Band>;
 
@@ -32,7 +33,7 @@ impl Banded {
     ) -> Result<(), Refusal>
         ensures { Changes (or_else (counts_refusal rows columns) (width_refusal width)) (λ _. ruled (blank rows columns) (band_rule width (columns - 1))) (banded_of self.old) (banded_of self.new) result }
     {
-        let frame = Frame::sized(rows, columns)?;
+        let frame = Frame::all_free(Counts::new(rows, columns)?);
         self.cells.shape(width, columns - 1)?;
         self.frame = frame;
         Ok(())

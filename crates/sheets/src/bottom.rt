@@ -37,7 +37,7 @@ impl<C: Clear> Bottom<C> {
     pub fn size(&mut self, rows: usize, columns: usize) -> Result<(), Refusal>
         ensures { Changes (counts_refusal rows columns) (λ b. ruled (blank rows columns) b.rule) (bottom_of C.Cells.cell C.Cells.rule self.old) (bottom_of C.Cells.cell C.Cells.rule self.new) result }
     {
-        self.frame = Frame::sized(rows, columns)?;
+        self.frame = Frame::all_free(Counts::new(rows, columns)?);
         self.cells.clear();
         Ok(())
     }
@@ -70,7 +70,7 @@ impl<C: Cells> System for Bottom<C> {
     }
 
     fn reach(&self) -> u64 {
-        REACH
+        u64::from(REACH)
     }
 
     fn cell(&self, row: usize, column: usize) -> Result<Interval, Refusal> {

@@ -1,15 +1,16 @@
 // A sheet without its cells: its counts, and which columns are held.
 ghost use Rattle.std.specs.Prelude.{◌≡◌, Some, None};
-ghost use Rattle.interval.specs.Refusals.{Answers, Changes, Gives};
+ghost use Rattle.interval.specs.Refusals.{Answers, Changes};
 ghost use Rattle.system.specs.Reading.{with_held};
 ghost use Rattle.system.specs.Writing.{hold_refusal, free_refusal};
-ghost use Rattle.system.specs.Counts.{counts_refusal};
 ghost use Rattle.sheets.specs.Frame.{frame_model, blank, Placed};
 
 use interval::Refusal;
 use system::{Counts, Held, MAX_COUNT, Place};
 
 // A sheet takes no memory from the heap once it is made, so the columns have an array.
+// Its clauses are by `frame_model` of its fields; an `impl Model` needs a value with a code, and what a column is held at is a
+// function.
 #[derive(Drop)]
 pub struct Frame {
     counts: Counts,
@@ -27,12 +28,6 @@ impl Frame {
         }
     }
 
-    pub(crate) fn sized(rows: usize, columns: usize) -> Result<Frame, Refusal>
-        ensures { Gives (counts_refusal rows columns) (λ f. frame_model f ≡ blank rows columns) result }
-    {
-        Ok(Frame::all_free(Counts::new(rows, columns)?))
-    }
-
     pub(crate) fn counts(&self) -> Counts
         ensures rows { result.rows ≡ (frame_model self.now).rows }
         ensures columns { result.columns ≡ (frame_model self.now).columns }
@@ -40,6 +35,7 @@ impl Frame {
         self.counts
     }
 
+    // Two plain numbers, as the system is asked.
     pub(crate) fn place(&self, row: usize, column: usize) -> Result<Place, Refusal>
         ensures { Placed (frame_model self.now) row column result }
     {

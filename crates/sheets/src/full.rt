@@ -12,7 +12,7 @@ use std::alloc::{AllocError, Global};
 pub type Full = Bottom<Grid>;
 
 impl Full {
-    // Each kind has a `new` of its own: they differ in what they ask of memory, and a trait for making cells would be longer.
+    // A `new` for every kind that takes memory would clash with that of `Parts`, which takes none and cannot fail.
     pub fn new(heap: Global) -> Result<Full, AllocError>
         ensures { IfOk result (λ s. full_of s ≡ ruled (blank 1 1) grid_rule) }
     {

@@ -52,6 +52,7 @@ fn check_width(rt: &impl Abort, sheet: &mut Banded, width: u8) -> Result<(), Fai
     Ok(())
 }
 
+// Two tests of one check, since each name says what it tests.
 #[test]
 fn width_0_keeps_the_diagonal_and_the_last_column(rt: HostRuntime) -> Result<(), Fail> {
     check_width(&rt, &mut banded_sheet(rt.alloc(), 40, 24, 0)?, 0)

@@ -33,9 +33,9 @@ fn check_refused<S: Sheet>(rt: &impl Abort, sheet: &mut S, value: Interval) {
 }
 
 fn check_limits<S: Sheet>(rt: &impl Abort, sheet: &mut S) -> Result<(), Fail> {
-    for (first, second) in TAKEN {
-        sheet.put(1, 1, Interval::from((first, second)))?;
-        assert_eq!(rt; sheet.cell(1, 1), Ok(Interval::from((first, second))));
+    for ends in TAKEN {
+        sheet.put(1, 1, Interval::from(ends))?;
+        assert_eq!(rt; sheet.cell(1, 1), Ok(Interval::from(ends)));
     }
     sheet.put(1, 1, ONE)?;
     for end in BEYOND {
@@ -46,6 +46,7 @@ fn check_limits<S: Sheet>(rt: &impl Abort, sheet: &mut S) -> Result<(), Fail> {
     Ok(())
 }
 
+// One call for each kind of sheet, as in the other tests of all three.
 #[test]
 fn ends_up_to_the_reach_are_taken_and_no_others(rt: HostRuntime) -> Result<(), Fail> {
     check_limits(&rt, &mut full_sheet(rt.alloc(), 3, 3)?)?;

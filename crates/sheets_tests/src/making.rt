@@ -7,10 +7,7 @@ use std::process::Abort;
 use std::test::Fail;
 use system::{PutFault, Sheet, System};
 
-pub(crate) const NOUGHT: Interval = Interval {
-    first: 0,
-    second: 0,
-};
+pub(crate) const NOUGHT: Interval = Interval::NOUGHT;
 
 pub(crate) const ONE: Interval = Interval {
     first: 1,

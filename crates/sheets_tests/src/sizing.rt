@@ -150,6 +150,7 @@ fn check_clears<C: Clear>(rt: &impl Abort, sheet: &mut Bottom<C>) -> Result<(), 
 fn sizing_clears_and_frees(rt: HostRuntime) -> Result<(), Fail> {
     check_clears(&rt, &mut full_sheet(rt.alloc(), 64, 64)?)?;
     check_clears(&rt, &mut parts_sheet(64, 64)?)?;
+    // The same with a width; a closure for the one call that differs would be no plainer.
     let mut banded = banded_sheet(rt.alloc(), 64, 64, 8)?;
     occupy(&mut banded)?;
     banded.size_with_width(1, 1, 8)?;

@@ -4,6 +4,7 @@ ghost use Rattle.interval.specs.Refusals.{number_of};
 ghost use Rattle.system.specs.Faults.{fault_at, raised as raised_of, fault_text};
 
 use interval::Refusal;
+use std::error::Error;
 use std::fmt;
 
 // The number of the refusal, the layer where it arose (0 is the topmost), and the place as that layer counts. These are plain
@@ -17,7 +18,7 @@ pub struct PutFault {
 }
 
 impl PutFault {
-    // The fault of a sheet that refuses by itself, and not for one below it.
+    // The fault of a sheet that refuses by itself, and not for one below it: the row and the column as they were given.
     pub fn at(refusal: Refusal, row: usize, column: usize) -> PutFault
         ensures { result ≡ fault_at (number_of refusal) row column }
     {
@@ -39,6 +40,8 @@ impl PutFault {
         }
     }
 }
+
+impl Error for PutFault {}
 
 impl fmt::Display for PutFault {
     ghost output = { λ f. Some (fault_text f) };

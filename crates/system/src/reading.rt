@@ -6,12 +6,12 @@ ghost use Rattle.system.specs.Reading.{Model, Bounded, has_place, has_column};
 use interval::{Interval, Limited, Number, Refusal};
 
 // The largest held number in size, and a number at which a column may be held.
-pub const MAX_HELD: u64 = 1000;
+pub const MAX_HELD: u32 = 1000;
 
 pub type Held = Number<MAX_HELD>;
 
 // The largest reach, and a cell that some system may show.
-pub const MAX_REACH: u64 = 10_000_000;
+pub const MAX_REACH: u32 = 10_000_000;
 
 pub type InLimit = Limited<MAX_REACH>;
 

@@ -5,7 +5,7 @@ ghost use Rattle.cells.specs.Band.{keeps, band_slot, band_cell, band_rule, bandi
 ghost use Rattle.std.proofs.Common.{rules};
 
 use crate::band::Band;
-use crate::keeping::{BLANK, Cells, InReach, NOUGHT};
+use crate::keeping::{BLANK, Cells, InReach};
 use interval::{Interval, Refusal};
 use std::alloc::{AllocError, Global};
 use system::Place;
@@ -72,9 +72,9 @@ impl Cells for Band {
 
     fn get(&self, place: Place) -> Interval {
         if self.keeps(place) {
-            self.cells[self.slot(place)].interval()
+            self.cells[self.slot(place)].into()
         } else {
-            NOUGHT
+            Interval::NOUGHT
         }
     }
 

@@ -39,7 +39,7 @@ impl Cells for Grid {
     ghost near = { Prim.search rules };
 
     fn get(&self, place: Place) -> Interval {
-        self.cells[slot(place)].interval()
+        self.cells[slot(place)].into()
     }
 
     fn put(&mut self, place: Place, value: InReach) -> Result<(), Refusal> {

@@ -5,7 +5,7 @@ ghost use Rattle.cells.specs.Slots.{Found};
 ghost use Rattle.cells.specs.Parts.{table_cell, parts_rule, Room};
 ghost use Rattle.cells.specs.Nearness.{near_cell};
 
-use crate::keeping::{BLANK, Cells, Clear, InReach, NOUGHT};
+use crate::keeping::{BLANK, Cells, Clear, InReach};
 use crate::parts::PartTable;
 use crate::parts::part::{EMPTY, Part, SLOTS};
 use interval::{Interval, Refusal};
@@ -45,8 +45,8 @@ impl Cells for PartTable {
 
     fn get(&self, place: Place) -> Interval {
         match self.find(place) {
-            Some(slot) => self.parts[slot].value.interval(),
-            None => NOUGHT,
+            Some(slot) => self.parts[slot].value.into(),
+            None => Interval::NOUGHT,
         }
     }
 

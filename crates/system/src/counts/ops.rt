@@ -27,6 +27,7 @@ impl Counts {
         Ok(Counts { rows, columns })
     }
 
+    // Two plain numbers become a place here.
     pub fn place(self, row: usize, column: usize) -> Result<Place, Refusal>
         ensures { Gives (place_refusal self row column) (λ p. (p.row ≡ row) × (p.column ≡ column)) result }
     {

@@ -15,4 +15,4 @@ returns g t c =
     let goes : c.lower-lowered.result ≡ Ok c.in_ok-lowered.lowered = grind (arith, common_steps) in
     let up : c.map_err-2.result ≡ handed_up c.put_at.result = search rules in
     rw (c.in-Some.ensures.cases.0, up)
-    (put_over (view top) before after (g.met.L.Layer.lawful top _) _ below c.args.row c.args.column c.args.value _ (rw goes at c.lower-lowered.ensures) _ c.put_at.ensures)
+    (put_over (view top) before after (g.met.L.Layer.lawful top _) _ below c.args.put.row c.args.put.column c.args.put.value _ (rw goes at c.lower-lowered.ensures) _ c.put_at.ensures)
