@@ -29,7 +29,7 @@ impl fmt::Display for SettingFault {
 
     fn fmt<W: fmt::Write>(&self, f: &mut fmt::Formatter<W>) -> fmt::Result {
         match self {
-            SettingFault::Refused(refusal) => write!(f, "{refusal}"),
+            SettingFault::Refused(reason) => write!(f, "{reason}"),
             SettingFault::NoSuchSetting => write!(f, "the topmost layer has no such setting"),
         }
     }
