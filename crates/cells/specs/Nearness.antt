@@ -10,4 +10,4 @@ use Rattle.cells.specs.Slots.{cell_in}
 
 pub near_cell : (ps : List Part) (r c : ℕ) → Within bottom_reach (cell_in ps r c)
 near_cell [] r c = omega arith
-near_cell (p ∷ ps) r c = let first = p.value.first.near in let second = p.value.second.near in grind (arith, nat_tests, near_cell ps r c)
+near_cell (p ∷ ps) r c = grind (arith, nat_tests, p.value.first.near, p.value.second.near, near_cell ps r c)
