@@ -13,12 +13,14 @@ bottom_reach = 100000
 abbrev pub Rule : Type 0
 Rule = (ℕ → ℕ → Interval) → ℕ → ℕ → Interval → Option ℕ
 
+-- the number 0
 abbrev pub none : Number bottom_reach
 none = record { value = pos 0; near = refl }
 
--- the interval in a slot of a list
+-- the value (0, 0)
 abbrev pub blank : Limited bottom_reach
 blank = record { first = none; second = none }
 
+-- the interval in a slot of a list
 abbrev pub slot_cell : List (Limited bottom_reach) → ℕ → Interval
 slot_cell xs k = interval_of (slice_index_or xs k blank)

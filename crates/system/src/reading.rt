@@ -16,7 +16,8 @@ pub const MAX_REACH: u32 = 10_000_000;
 pub type InLimit = Limited<MAX_REACH>;
 
 // Rows and columns are numbered from 0, and asked by two plain numbers, as places of a table are: a struct of the two would be
-// written out at each call and say no more. A place that was looked up is a `Place`. Code over this trait knows of an implementation what `meaning` says, and no more.
+// written out at each call and say no more. A place that was looked up is a `Place`. Code over this trait knows of an
+// implementation what `meaning` says, and no more.
 pub trait System {
     ghost meaning: { Self → Model };
 
