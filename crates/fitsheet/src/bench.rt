@@ -1,21 +1,27 @@
 // The three sheets that a script works on, and the answers to its commands.
-use crate::commands::{Command, Order, Shape, SheetName, Size};
+use crate::commands::{Command, Order, SheetName, Size};
 use crate::rows::answer_row;
 use crate::table::show;
 use interval::Refusal;
 use sheets::{Banded, Full, Parts};
 use std::alloc::{AllocError, Global};
-use std::{fmt, io};
+use std::io;
 use system::{PutFault, Sheet, System, same};
+use thiserror::Error;
 
 // Why a command is not obeyed: a sheet refuses it, or its answer cannot be made or written.
-#[derive(Debug, Drop)]
+#[derive(Debug, Drop, Error)]
 pub enum Failure {
-    Refused(Refusal),
-    PutRefused(PutFault),
-    Io(io::Error),
+    #[error("refused ({}): {}", u8::from(*.0), .0)]
+    Refused(#[from] Refusal),
+    #[error("refused ({}): {}", .0.number, .0)]
+    PutRefused(#[from] PutFault),
+    #[error(transparent)]
+    Io(#[from] io::Error),
 }
 
+// The sheets are of three types, and a function that hands one out as a `dyn` is refused by the gate. So whatever asks the
+// sheet of a name is a `match` of three arms.
 #[derive(Drop)]
 pub struct Bench {
     full: Full,
@@ -35,9 +41,8 @@ impl Bench {
     // Answers a command, also where a sheet refuses it.
     pub(crate) fn answer(&mut self, rt: &HostRuntime, command: Command<'_>) -> io::Result<()> {
         self.obey(rt, command).or_else(|failure| match failure {
-            Failure::Refused(refusal) => refuse(rt, u8::from(refusal), &refusal),
-            Failure::PutRefused(fault) => refuse(rt, fault.number, &fault),
             Failure::Io(error) => Err(error),
+            refused => println!(rt; "  {refused}"),
         })
     }
 
@@ -49,10 +54,7 @@ impl Bench {
             }
             Command::Size(size) => {
                 self.size(size)?;
-                let name = size.sheet();
-                println!(rt;
-                    "  the {name} sheet is {size}, every cell (0, 0) and every column free"
-                )?;
+                println!(rt; "  {size}, every cell (0, 0) and every column free")?;
             }
             Command::On(SheetName::Full, order) => obey_order(rt, &mut self.full, order)?,
             Command::On(SheetName::Banded, order) => obey_order(rt, &mut self.banded, order)?,
@@ -70,15 +72,14 @@ impl Bench {
     }
 
     fn size(&mut self, size: Size) -> Result<(), Refusal> {
-        let Size {
-            shape,
-            rows,
-            columns,
-        } = size;
-        match shape {
-            Shape::Full => self.full.size(rows, columns),
-            Shape::Banded { width } => self.banded.size_with_width(rows, columns, width),
-            Shape::Parts => self.parts.size(rows, columns),
+        match size {
+            Size::Full { rows, columns } => self.full.size(rows, columns),
+            Size::Banded {
+                rows,
+                columns,
+                width,
+            } => self.banded.size_with_width(rows, columns, width),
+            Size::Parts { rows, columns } => self.parts.size(rows, columns),
         }
     }
 
@@ -91,6 +92,7 @@ impl Bench {
         Ok(())
     }
 
+    // `same` takes two types: the match here finds the second, and the one in `is_same` the first.
     fn compare(&self, a: SheetName, b: SheetName) -> bool {
         match b {
             SheetName::Full => self.is_same(a, &self.full),
@@ -135,26 +137,4 @@ fn obey_order<S: Sheet>(rt: &HostRuntime, sheet: &mut S, order: Order) -> Result
         Order::Show => show(rt, sheet)?,
     }
     Ok(())
-}
-
-fn refuse<R: fmt::Display>(rt: &HostRuntime, number: u8, reason: &R) -> io::Result<()> {
-    println!(rt; "  refused ({number}): {reason}")
-}
-
-impl From<Refusal> for Failure {
-    fn from(refusal: Refusal) -> Failure {
-        Failure::Refused(refusal)
-    }
-}
-
-impl From<PutFault> for Failure {
-    fn from(fault: PutFault) -> Failure {
-        Failure::PutRefused(fault)
-    }
-}
-
-impl From<io::Error> for Failure {
-    fn from(error: io::Error) -> Failure {
-        Failure::Io(error)
-    }
 }

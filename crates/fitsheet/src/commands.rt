@@ -19,22 +19,26 @@ pub enum SheetName {
     Parts,
 }
 
+// What each sheet is told. One variant for two of them would need a second enum of names, and a conversion between the two.
 #[derive(Clone, Copy, PartialEq, Eq, Debug)]
-pub struct Size {
-    pub shape: Shape,
-    pub rows: usize,
-    pub columns: usize,
+pub enum Size {
+    Full {
+        rows: usize,
+        columns: usize,
+    },
+    Banded {
+        rows: usize,
+        columns: usize,
+        width: usize,
+    },
+    Parts {
+        rows: usize,
+        columns: usize,
+    },
 }
 
-// The sheet that is sized, and what it takes beside rows and columns.
-#[derive(Clone, Copy, PartialEq, Eq, Debug)]
-pub enum Shape {
-    Full,
-    Banded { width: usize },
-    Parts,
-}
-
-// What is asked of a sheet of any kind.
+// What is asked of a sheet of any kind. A row and a column are plain numbers, as the script has them: the sheet tells whether
+// they are a place.
 #[derive(Clone, Copy, PartialEq, Eq, Debug)]
 pub enum Order {
     Put {
@@ -88,22 +92,30 @@ fn read_on(name: SheetName, text: &str) -> Result<Command<'_>, Complaint<'_>> {
 }
 
 fn read_size(name: SheetName, text: &str) -> Result<Size, Complaint<'_>> {
-    let mut words = Words::new(text, name.size_usage());
-    let rows = words.place()?;
-    let columns = words.place()?;
-    let shape = match name {
-        SheetName::Full => Shape::Full,
-        SheetName::Banded => Shape::Banded {
-            width: words.place()?,
-        },
-        SheetName::Parts => Shape::Parts,
-    };
-    words.end()?;
-    Ok(Size {
-        shape,
-        rows,
-        columns,
-    })
+    match name {
+        SheetName::Full => {
+            let mut words = Words::new(text, "full size ROWS COLUMNS");
+            Ok(Size::Full {
+                rows: words.place()?,
+                columns: words.last_place()?,
+            })
+        }
+        SheetName::Banded => {
+            let mut words = Words::new(text, "banded size ROWS COLUMNS WIDTH");
+            Ok(Size::Banded {
+                rows: words.place()?,
+                columns: words.place()?,
+                width: words.last_place()?,
+            })
+        }
+        SheetName::Parts => {
+            let mut words = Words::new(text, "parts size ROWS COLUMNS");
+            Ok(Size::Parts {
+                rows: words.place()?,
+                columns: words.last_place()?,
+            })
+        }
+    }
 }
 
 fn read_order<'a>(verb: &str, text: &'a str) -> Result<Order, Complaint<'a>> {
@@ -157,47 +169,30 @@ impl<'a> TryFrom<&'a str> for SheetName {
     }
 }
 
-impl SheetName {
-    fn size_usage(self) -> &'static str {
-        match self {
-            SheetName::Full => "full size ROWS COLUMNS",
-            SheetName::Banded => "banded size ROWS COLUMNS WIDTH",
-            SheetName::Parts => "parts size ROWS COLUMNS",
-        }
-    }
-}
-
-impl Size {
-    pub(crate) fn sheet(self) -> SheetName {
-        match self.shape {
-            Shape::Full => SheetName::Full,
-            Shape::Banded { .. } => SheetName::Banded,
-            Shape::Parts => SheetName::Parts,
-        }
-    }
-}
-
-impl fmt::Display for Size {
-    fn fmt<W: fmt::Write>(&self, f: &mut fmt::Formatter<W>) -> fmt::Result {
-        let Size {
-            shape,
-            rows,
-            columns,
-        } = self;
-        write!(f, "{rows} by {columns}")?;
-        match shape {
-            Shape::Banded { width } => write!(f, " with width {width}"),
-            Shape::Full | Shape::Parts => Ok(()),
-        }
-    }
-}
-
 impl fmt::Display for SheetName {
     fn fmt<W: fmt::Write>(&self, f: &mut fmt::Formatter<W>) -> fmt::Result {
+        f.write_str(match self {
+            SheetName::Full => "full",
+            SheetName::Banded => "banded",
+            SheetName::Parts => "parts",
+        })
+    }
+}
+
+// As the answer to the command begins.
+impl fmt::Display for Size {
+    fn fmt<W: fmt::Write>(&self, f: &mut fmt::Formatter<W>) -> fmt::Result {
         match self {
-            SheetName::Full => write!(f, "full"),
-            SheetName::Banded => write!(f, "banded"),
-            SheetName::Parts => write!(f, "parts"),
+            Size::Full { rows, columns } => write!(f, "the full sheet is {rows} by {columns}"),
+            Size::Banded {
+                rows,
+                columns,
+                width,
+            } => write!(
+                f,
+                "the banded sheet is {rows} by {columns} with width {width}"
+            ),
+            Size::Parts { rows, columns } => write!(f, "the parts sheet is {rows} by {columns}"),
         }
     }
 }

@@ -1,16 +1,22 @@
 // Words, numbers and intervals as text.
 use crate::commands::SheetName;
 use interval::Interval;
-use std::fmt;
 use std::num::{IntErrorKind, ParseIntError};
 use std::str::FromStr;
+use thiserror::Error;
 
 // Why a line is no command.
-#[derive(Clone, Copy, PartialEq, Eq, Debug)]
+#[derive(Clone, Copy, PartialEq, Eq, Debug, Error)]
 pub enum Complaint<'a> {
+    #[error("'{0}' is neither row nor same nor a sheet (full, banded or parts)")]
     Unknown(&'a str),
+    #[error("write {0}")]
     Usage(&'static str),
-    Misread { text: &'a str, wanted: &'static str },
+    #[error("'{0}' is not a whole number from 0 on")]
+    NotAPlace(&'a str),
+    #[error("'{0}' is not a whole number")]
+    NotANumber(&'a str),
+    #[error("'{0}' does not fit 64 bits")]
     TooLong(&'a str),
 }
 
@@ -33,7 +39,7 @@ impl<'a> Words<'a> {
     // A row, a column, a count or a width.
     pub(crate) fn place(&mut self) -> Result<usize, Complaint<'a>> {
         let word = self.word();
-        read_integer(word, self.usage, "a whole number from 0 on")
+        self.integer(word, Complaint::NotAPlace(word))
     }
 
     pub(crate) fn last_place(&mut self) -> Result<usize, Complaint<'a>> {
@@ -45,12 +51,21 @@ impl<'a> Words<'a> {
     pub(crate) fn last_number(&mut self) -> Result<i64, Complaint<'a>> {
         let word = self.word();
         self.end()?;
-        read_number(word, self.usage)
+        self.number_of(word)
     }
 
     // All that is left.
+    pub(crate) fn number(&self) -> Result<i64, Complaint<'a>> {
+        self.number_of(self.text)
+    }
+
+    // All that is left, as `(2, 3)`.
     pub(crate) fn interval(&self) -> Result<Interval, Complaint<'a>> {
-        read_interval(self.text, self.usage)
+        let (first, second) = split_ends(self.text).ok_or(Complaint::Usage(self.usage))?;
+        Ok(Interval {
+            first: self.number_of(first.trim())?,
+            second: self.number_of(second.trim())?,
+        })
     }
 
     pub(crate) fn end(&self) -> Result<(), Complaint<'a>> {
@@ -66,6 +81,27 @@ impl<'a> Words<'a> {
         self.text = rest;
         word
     }
+
+    fn number_of(&self, text: &'a str) -> Result<i64, Complaint<'a>> {
+        self.integer(text, Complaint::NotANumber(text))
+    }
+
+    // `misread` is what is said of a text that is no whole number. A `match`, since the check does not take a closure for `map_err`
+    // that holds it.
+    fn integer<N: FromStr<Err = ParseIntError>>(
+        &self,
+        text: &'a str,
+        misread: Complaint<'a>,
+    ) -> Result<N, Complaint<'a>> {
+        match text.parse() {
+            Ok(number) => Ok(number),
+            Err(error) => Err(match error.kind() {
+                IntErrorKind::Empty => Complaint::Usage(self.usage),
+                IntErrorKind::PosOverflow | IntErrorKind::NegOverflow => Complaint::TooLong(text),
+                _ => misread,
+            }),
+        }
+    }
 }
 
 // The first word, and what follows it.
@@ -76,50 +112,6 @@ pub(crate) fn split_word(text: &str) -> (&str, &str) {
     }
 }
 
-pub(crate) fn read_number<'a>(text: &'a str, usage: &'static str) -> Result<i64, Complaint<'a>> {
-    read_integer(text, usage, "a whole number")
-}
-
-// `(2, 3)`.
-pub(crate) fn read_interval<'a>(
-    text: &'a str,
-    usage: &'static str,
-) -> Result<Interval, Complaint<'a>> {
-    let (first, second) = split_ends(text).ok_or(Complaint::Usage(usage))?;
-    Ok(Interval {
-        first: read_number(first.trim(), usage)?,
-        second: read_number(second.trim(), usage)?,
-    })
-}
-
 fn split_ends(text: &str) -> Option<(&str, &str)> {
     text.strip_prefix('(')?.strip_suffix(')')?.split_once(',')
-}
-
-// `wanted` says what the text is to be.
-fn read_integer<'a, N: FromStr<Err = ParseIntError>>(
-    text: &'a str,
-    usage: &'static str,
-    wanted: &'static str,
-) -> Result<N, Complaint<'a>> {
-    text.parse()
-        .map_err(|error: ParseIntError| match error.kind() {
-            IntErrorKind::Empty => Complaint::Usage(usage),
-            IntErrorKind::PosOverflow | IntErrorKind::NegOverflow => Complaint::TooLong(text),
-            _ => Complaint::Misread { text, wanted },
-        })
-}
-
-impl fmt::Display for Complaint<'_> {
-    fn fmt<W: fmt::Write>(&self, f: &mut fmt::Formatter<W>) -> fmt::Result {
-        match self {
-            Complaint::Unknown(text) => write!(
-                f,
-                "'{text}' is neither row nor same nor a sheet (full, banded or parts)"
-            ),
-            Complaint::Usage(usage) => write!(f, "write {usage}"),
-            Complaint::Misread { text, wanted } => write!(f, "'{text}' is not {wanted}"),
-            Complaint::TooLong(text) => write!(f, "'{text}' does not fit 64 bits"),
-        }
-    }
 }

@@ -1,5 +1,5 @@
 // The command `row`: for each column a cell and a factor, `(2, 3) at 2; (9, 5) at -1`, judged.
-use crate::reading::{Complaint, read_interval, read_number};
+use crate::reading::{Complaint, Words};
 use row::{Term, Verdict, Walk};
 use std::io;
 
@@ -19,8 +19,8 @@ pub(crate) fn answer_row(rt: &HostRuntime, text: &str) -> io::Result<()> {
 fn read_term(text: &str) -> Result<Term, Complaint<'_>> {
     let (cell, factor) = text.split_once("at").ok_or(Complaint::Usage(USAGE))?;
     Ok(Term {
-        cell: read_interval(cell.trim(), USAGE)?,
-        factor: read_number(factor.trim(), USAGE)?,
+        cell: Words::new(cell.trim(), USAGE).interval()?,
+        factor: Words::new(factor.trim(), USAGE).number()?,
     })
 }
 

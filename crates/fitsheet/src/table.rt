@@ -31,31 +31,36 @@ fn print_line(rt: &HostRuntime, line: &Line, width: usize) -> io::Result<()> {
 }
 
 fn lines_of<S: System>(heap: Global, sheet: &S) -> Result<Vec<Line>, AllocError> {
-    let columns = sheet.columns();
-    let mut lines = vec![in heap;
-        Line {
-            head: String::new(heap),
-            texts: (0..columns)
-                .map(|column| format!(in heap; "column {column}"))
-                .try_collect(heap)?,
-        },
-        Line {
-            head: String::new(heap),
-            texts: (0..columns)
-                .map(|column| held_text(heap, sheet, column))
-                .try_collect(heap)?,
-        },
-    ]?;
-    // A sheet is asked by the numbers of its rows; there is no list of them.
-    for row in 0..sheet.rows() {
-        lines.push(Line {
-            head: format!(in heap; "  row {row:2}")?,
-            texts: (0..columns)
-                .map(|column| cell_text(heap, sheet, row, column))
-                .try_collect(heap)?,
-        })?;
-    }
-    Ok(lines)
+    let above = [column_line(heap, sheet), held_line(heap, sheet)];
+    let rows = (0..sheet.rows()).map(|row| row_line(heap, sheet, row));
+    above.into_iter().chain(rows).try_collect(heap)
+}
+
+fn column_line<S: System>(heap: Global, sheet: &S) -> Result<Line, AllocError> {
+    Ok(Line {
+        head: String::new(heap),
+        texts: (0..sheet.columns())
+            .map(|column| format!(in heap; "column {column}"))
+            .try_collect(heap)?,
+    })
+}
+
+fn held_line<S: System>(heap: Global, sheet: &S) -> Result<Line, AllocError> {
+    Ok(Line {
+        head: String::new(heap),
+        texts: (0..sheet.columns())
+            .map(|column| held_text(heap, sheet, column))
+            .try_collect(heap)?,
+    })
+}
+
+fn row_line<S: System>(heap: Global, sheet: &S, row: usize) -> Result<Line, AllocError> {
+    Ok(Line {
+        head: format!(in heap; "  row {row:2}")?,
+        texts: (0..sheet.columns())
+            .map(|column| cell_text(heap, sheet, row, column))
+            .try_collect(heap)?,
+    })
 }
 
 // A text, and not an `impl Display`, since it is padded as a whole.
