@@ -169,6 +169,7 @@ impl<'a> TryFrom<&'a str> for SheetName {
     }
 }
 
+// Its own words, as each enum that is printed has.
 impl fmt::Display for SheetName {
     fn fmt<W: fmt::Write>(&self, f: &mut fmt::Formatter<W>) -> fmt::Result {
         f.write_str(match self {

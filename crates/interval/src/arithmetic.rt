@@ -1,4 +1,5 @@
-// Kaucher's arithmetic. Each call takes numbers within ±1,000,000,000, refuses others, and answers both ends together.
+// Kaucher's arithmetic. Each call takes numbers within ±1,000,000,000, refuses others, and answers both ends together,
+// as a pair: a rule of the project.
 ghost use Rattle.std.specs.Prelude.{◌≡◌, ◌&&◌};
 ghost use Rattle.interval.specs.Refusals.{unless, Answers};
 ghost use Rattle.interval.specs.Directed.{in_limit as in_limit_of, within as within_of};

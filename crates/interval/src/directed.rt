@@ -91,6 +91,7 @@ impl fmt::Display for Interval {
     }
 }
 
+// Each enum has its own words: one function for all would take them as parameters.
 impl fmt::Display for Kind {
     ghost output = { λ k. Some (kind_text k) };
 

@@ -47,6 +47,7 @@ impl Error for Refusal {}
 
 impl Error for NoSuchRefusal {}
 
+// What is printed of either is written by hand, since its text is proved.
 impl fmt::Display for NoSuchRefusal {
     ghost output = { λ e. Some (no_such_text e.0) };
 

@@ -30,14 +30,6 @@ impl Extreme {
             self.other()
         }
     }
-
-    fn of(self, best: Option<i64>, n: i64) -> Option<i64> {
-        Some(match (self, best) {
-            (_, None) => n,
-            (Extreme::Least, Some(m)) => m.min(n),
-            (Extreme::Greatest, Some(m)) => m.max(n),
-        })
-    }
 }
 
 // The numbers from one end to the other.
@@ -45,7 +37,8 @@ fn numbers(x: Interval) -> RangeInclusive<i64> {
     x.first.min(x.second)..=x.first.max(x.second)
 }
 
-// What `y` makes of the number `s`.
+// What `y` makes of the number `s`. An operation that is passed in is required to be callable, as the language asks of each
+// function that takes one.
 fn answered<F: Fn(i64, i64) -> i64>(
     s: i64,
     operation: &F,
@@ -54,7 +47,11 @@ fn answered<F: Fn(i64, i64) -> i64>(
 ) -> Option<i64>
     requires { F.IsAlwaysCallable operation.now }
 {
-    numbers(y).fold(None, |best, t| wanted.aim(y).of(best, operation(s, t)))
+    let answers = numbers(y).map(|t| operation(s, t));
+    match wanted.aim(y) {
+        Extreme::Least => answers.min(),
+        Extreme::Greatest => answers.max(),
+    }
 }
 
 // What is forced where spreads come before trims.
@@ -67,9 +64,11 @@ fn forced<F: Fn(i64, i64) -> i64>(
     requires { F.IsAlwaysCallable operation.now }
 {
     let (x, y) = if x.first > x.second { (y, x) } else { (x, y) };
-    numbers(x)
-        .filter_map(|s| answered(s, operation, y, wanted))
-        .fold(None, |best, n| wanted.aim(x).of(best, n))
+    let answers = numbers(x).filter_map(|s| answered(s, operation, y, wanted));
+    match wanted.aim(x) {
+        Extreme::Least => answers.min(),
+        Extreme::Greatest => answers.max(),
+    }
 }
 
 fn check_forced<F: Fn(i64, i64) -> i64>(

@@ -14,7 +14,8 @@ use system::InLimit;
 // A value of such a type is the settings of a layer. `view` is what a layer with them shows of a system below it, by that
 // system's counts and reach; settings that don't fit these act as they do at first.
 // Each layer answers every call itself, also where it changes nothing: a body given here would be no plainer, since the promise
-// is about each layer's own view, and of an unknown view it is not true. A row and a column are two numbers, as the system's.
+// is about each layer's own view, and of an unknown view it is not true. A row and a column are two numbers, as the
+// system's: a `Place` would ask more of whoever asks.
 pub trait Layer {
     ghost view: { Self → Extent → View };
 

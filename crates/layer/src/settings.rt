@@ -14,6 +14,7 @@ pub enum SettingFault {
     NoSuchSetting,
 }
 
+// Written by hand, since clauses name what it gives, and below since the text is proved.
 impl From<Refusal> for SettingFault {
     ghost from_gives = { λ e r. r ≡ Fault.Refused e };
 

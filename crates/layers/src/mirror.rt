@@ -11,7 +11,8 @@ use interval::{Interval, Refusal};
 use layer::{Layer, Settable, SettingFault, Shape};
 use system::{InLimit, MAX_COUNT};
 
-// The columns that are marked, and the count of columns that this was made for. A layer's settings take no memory from the heap.
+// The columns that are marked, and the count of columns that this was made for. A layer's settings take no memory from the heap,
+// and are copied whole, as no list with a length is.
 // Clauses are by `marks_of` of the fields: an `impl Model` needs a value with a code, and which columns are marked is a function.
 #[derive(Clone, Copy)]
 pub struct Mirror {

@@ -7,7 +7,8 @@ ghost use Rattle.order.specs.Places.{placed, swapped};
 use interval::Refusal;
 use system::MAX_COUNT;
 
-// The place of each number; a number that is not below `count` is its own. A layer's settings take no memory from the heap.
+// The place of each number; a number that is not below `count` is its own. A layer's settings take no memory from the heap,
+// and are copied whole, as no list with a length is.
 // Clauses are by `place_of` of the fields: an `impl Model` needs a value with a code, and a permutation of all numbers is a function.
 #[derive(Clone, Copy)]
 pub struct Places {

@@ -10,7 +10,7 @@ use interval::{Interval, Refusal};
 use layer::{Layer, Settable, SettingFault, Shape};
 use system::InLimit;
 
-// The rows and the columns below that each stand for.
+// The rows and the columns below that each stand for. Clauses are by `arrangement_of` of the fields, as those of places.
 #[derive(Clone, Copy)]
 pub struct Order {
     rows: Places,

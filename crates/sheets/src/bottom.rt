@@ -13,6 +13,7 @@ use cells::{Cells, Clear, InReach, REACH};
 use interval::{Interval, Refusal};
 use system::{Counts, PutFault, Sheet, System};
 
+// Its clauses are by `bottom_of` of the fields, which is made of functions, as the frame's.
 #[derive(Drop)]
 pub struct Bottom<C> {
     pub(crate) frame: Frame,
@@ -33,7 +34,7 @@ impl<C> Bottom<C> {
 }
 
 impl<C: Clear> Bottom<C> {
-    // Sets the counts, makes every cell (0, 0), and frees every column.
+    // Sets the counts, which are two numbers until they are checked, makes every cell (0, 0), and frees every column.
     pub fn size(&mut self, rows: usize, columns: usize) -> Result<(), Refusal>
         ensures { Changes (counts_refusal rows columns) (λ b. ruled (blank rows columns) b.rule) (bottom_of C.Cells.cell C.Cells.rule self.old) (bottom_of C.Cells.cell C.Cells.rule self.new) result }
     {

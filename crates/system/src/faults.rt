@@ -43,6 +43,7 @@ impl PutFault {
 
 impl Error for PutFault {}
 
+// Written by hand, since the text is proved.
 impl fmt::Display for PutFault {
     ghost output = { λ f. Some (fault_text f) };
 

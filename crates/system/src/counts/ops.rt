@@ -16,7 +16,7 @@ impl Counts {
         columns: 1,
     };
 
-    // From 1 to 64 each.
+    // From 1 to 64 each. Counts that nobody checked yet are two numbers, here and where sheets are sized.
     pub fn new(rows: usize, columns: usize) -> Result<Counts, Refusal>
         ensures { Gives (counts_refusal rows columns) (λ c. (c.rows ≡ rows) × (c.columns ≡ columns)) result }
     {
