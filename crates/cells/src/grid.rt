@@ -5,8 +5,8 @@ use crate::keeping::InReach;
 
 pub mod ops;
 
-// The cell at row r and column c stands at 64 r + c. Clauses are by `grid_cell` of the fields: an `impl Model` needs a value with a
-// code, and what each place holds is a function.
+// The cell at row r and column c stands at 64 r + c. Clauses speak of it by `grid_cell` of its fields: an `impl Model` needs a value
+// by which proofs can tell two grids apart, and what each place holds is a function, of which none can.
 #[derive(Drop)]
 pub struct Grid {
     cells: Vec<InReach>,

@@ -14,7 +14,7 @@ pub enum SettingFault {
     NoSuchSetting,
 }
 
-// Written by hand, since clauses name what it gives, and below since the text is proved.
+// This and what is printed are written by hand and not derived, since clauses name what they give.
 impl From<Refusal> for SettingFault {
     ghost from_gives = { λ e r. r ≡ Fault.Refused e };
 

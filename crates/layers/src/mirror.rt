@@ -13,12 +13,13 @@ use system::{InLimit, MAX_COUNT};
 
 // The columns that are marked, and the count of columns that this was made for. A layer's settings take no memory from the heap,
 // and are copied whole, as no list with a length is.
-// Clauses are by `marks_of` of the fields: an `impl Model` needs a value with a code, and which columns are marked is a function.
+// Clauses speak of it by `marks_of` of its fields: an `impl Model` needs a value by which proofs can tell two mirrors apart, and
+// which columns are marked is a function, of which none can.
 #[derive(Clone, Copy)]
 pub struct Mirror {
     marks: [bool; MAX_COUNT],
     columns: usize,
-    // Said here and where one is made, and nowhere else.
+    // A type for such a count would be no plainer: the fact stands here and where one is made, and nowhere else.
     ghost few: { columns ≤ max_count },
 }
 

@@ -9,12 +9,13 @@ use system::MAX_COUNT;
 
 // The place of each number; a number that is not below `count` is its own. A layer's settings take no memory from the heap,
 // and are copied whole, as no list with a length is.
-// Clauses are by `place_of` of the fields: an `impl Model` needs a value with a code, and a permutation of all numbers is a function.
+// Clauses speak of it by `place_of` of its fields: an `impl Model` needs a value by which proofs can tell two tables apart, and a
+// permutation of all numbers is a function, of which none can.
 #[derive(Clone, Copy)]
 pub struct Places {
     at: [usize; MAX_COUNT],
     pub(crate) count: usize,
-    // Said here and where one is made, and nowhere else.
+    // A type for such a count would be no plainer: the fact stands here and where one is made, and nowhere else.
     ghost few: { count ≤ max_count },
     ghost inside: { (k : ℕ) → nat_lt (placed at count k) count ≡ nat_lt k count },
     ghost apart: { (i j : ℕ) → (placed at count i == placed at count j) ≡ (i == j) },

@@ -13,7 +13,7 @@ use cells::{Cells, Clear, InReach, REACH};
 use interval::{Interval, Refusal};
 use system::{Counts, PutFault, Sheet, System};
 
-// Its clauses are by `bottom_of` of the fields, which is made of functions, as the frame's.
+// Clauses speak of it by `bottom_of` of its fields, which holds functions, and so not by an `impl Model`, as with the frame.
 #[derive(Drop)]
 pub struct Bottom<C> {
     pub(crate) frame: Frame,

@@ -8,9 +8,9 @@ ghost use Rattle.sheets.specs.Frame.{frame_model, blank, Placed};
 use interval::Refusal;
 use system::{Counts, Held, MAX_COUNT, Place};
 
-// A sheet takes no memory from the heap once it is made, so the columns have an array.
-// Its clauses are by `frame_model` of its fields; an `impl Model` needs a value with a code, and what a column is held at is a
-// function.
+// A sheet takes no memory from the heap once it is made, so the columns have an array. Clauses speak of a frame by `frame_model`
+// of its fields; an `impl Model` needs a value by which proofs can tell two frames apart, and what each column is held at is a
+// function, of which no proof can.
 #[derive(Drop)]
 pub struct Frame {
     counts: Counts,

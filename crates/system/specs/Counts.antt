@@ -2,7 +2,7 @@
 use Rattle.std.specs.Prelude.{ℕ, ◌&&◌, Option, nat_le, nat_lt}
 use Rattle.interval.specs.Refusals.{unless}
 use Rattle.system.specs.declared.counts.Counts.{Counts}
-use Rattle.system.specs.Reading.{max_count}
+use Rattle.system.specs.Reading.{max_count, is_there}
 
 -- each count is from 1 to 64
 abbrev pub counts_refusal : ℕ → ℕ → Option ℕ
@@ -10,7 +10,7 @@ counts_refusal rows columns = unless ((nat_le 1 rows && nat_le rows max_count) &
 
 -- the row and the column are there
 abbrev pub place_refusal : Counts → ℕ → ℕ → Option ℕ
-place_refusal n r c = unless (nat_lt r n.rows && nat_lt c n.columns) 2
+place_refusal n r c = unless (is_there n.rows n.columns r c) 2
 
 -- the column is there
 abbrev pub column_refusal : Counts → ℕ → Option ℕ

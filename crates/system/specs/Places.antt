@@ -2,9 +2,10 @@
 use Rattle.std.specs.Prelude.{◌<◌}
 use Rattle.std.proofs.Common.{arith}
 use Rattle.system.specs.declared.places.Place.{Place}
+use Rattle.system.specs.Reading.{max_count}
 
-pub below_64 : 0 < 64
-below_64 = omega arith
+pub some_places : 0 < max_count
+some_places = omega arith
 
 abbrev pub corner : Place
-corner = record { row = 0; column = 0; few_rows = below_64; few_columns = below_64 }
+corner = record { row = 0; column = 0; few_rows = some_places; few_columns = some_places }

@@ -20,9 +20,12 @@ max_reach = 10000000
 abbrev pub max_held : ℕ
 max_held = 1000
 
--- the row and the column are there
+-- the row and the column are there, where there are so many rows and columns
+abbrev pub is_there : (rows columns r c : ℕ) → Bool
+is_there rows columns r c = nat_lt r rows && nat_lt c columns
+
 abbrev pub has_place : Model → ℕ → ℕ → Bool
-has_place m r c = nat_lt r m.rows && nat_lt c m.columns
+has_place m = is_there m.rows m.columns
 
 -- the column is there
 abbrev pub has_column : Model → ℕ → Bool

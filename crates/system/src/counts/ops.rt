@@ -31,9 +31,10 @@ impl Counts {
     pub fn place(self, row: usize, column: usize) -> Result<Place, Refusal>
         ensures { Gives (place_refusal self row column) (λ p. (p.row ≡ row) × (p.column ≡ column)) result }
     {
-        if row >= self.rows || column >= self.columns {
+        if row >= self.rows {
             return Err(Refusal::NoSuchPlace);
         }
+        let column = self.column(column)?;
         Ok(Place { row, column })
     }
 
