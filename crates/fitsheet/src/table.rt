@@ -3,64 +3,65 @@ use std::alloc::{AllocError, Global};
 use std::io;
 use system::System;
 
-// What stands before the columns, and the text of each column.
-#[derive(Debug, Drop)]
-struct Line {
-    head: String,
-    texts: Vec<String>,
+// The names of the columns, what they are held at, or a row.
+#[derive(Clone, Copy)]
+enum Line {
+    Names,
+    Held,
+    Row(usize),
 }
 
+// Each text is made twice, to be measured and to be printed, so that one is kept at a time, and not the whole table. What prints
+// goes over the numbers by which a sheet is asked, and ends where a line cannot be written.
 pub(crate) fn show<S: System>(rt: &HostRuntime, sheet: &S) -> io::Result<()> {
     let (rows, columns, reach) = (sheet.rows(), sheet.columns(), sheet.reach());
     println!(rt; "  rows: {rows}, columns: {columns}, reach: {reach}")?;
-    let lines = lines_of(rt.alloc(), sheet)?;
-    let texts = lines.iter().flat_map(|line| line.texts.iter());
-    let width = texts.map(|text| text.len()).max().unwrap_or(0);
-    for line in &lines {
-        print_line(rt, line, width)?;
+    let width = widest(rt.alloc(), sheet)?;
+    print_line(rt, sheet, Line::Names, width)?;
+    print_line(rt, sheet, Line::Held, width)?;
+    for row in 0..rows {
+        print_line(rt, sheet, Line::Row(row), width)?;
     }
     Ok(())
 }
 
-fn print_line(rt: &HostRuntime, line: &Line, width: usize) -> io::Result<()> {
-    print!(rt; "{:8}", line.head)?;
-    for text in &line.texts {
+fn print_line<S: System>(rt: &HostRuntime, sheet: &S, line: Line, width: usize) -> io::Result<()> {
+    match line {
+        Line::Row(row) => print!(rt; "  row {row:2}")?,
+        Line::Names | Line::Held => print!(rt; "        ")?,
+    }
+    for column in 0..sheet.columns() {
+        let text = line.text(rt.alloc(), sheet, column)?;
         print!(rt; "  {text:>width$}")?;
     }
     println!(rt)
 }
 
-fn lines_of<S: System>(heap: Global, sheet: &S) -> Result<Vec<Line>, AllocError> {
-    let above = [column_line(heap, sheet), held_line(heap, sheet)];
-    let rows = (0..sheet.rows()).map(|row| row_line(heap, sheet, row));
-    above.into_iter().chain(rows).try_collect(heap)
+// The length of the longest text.
+fn widest<S: System>(heap: Global, sheet: &S) -> Result<usize, AllocError> {
+    let names = Line::Names.width(heap, sheet)?;
+    let above = Line::Held.width(heap, sheet)?.max(names);
+    (0..sheet.rows()).try_fold(
+        above,
+        |width, row| Ok(Line::Row(row).width(heap, sheet)?.max(width)),
+    )
 }
 
-fn column_line<S: System>(heap: Global, sheet: &S) -> Result<Line, AllocError> {
-    Ok(Line {
-        head: String::new(heap),
-        texts: (0..sheet.columns())
-            .map(|column| format!(in heap; "column {column}"))
-            .try_collect(heap)?,
-    })
-}
+impl Line {
+    fn width<S: System>(self, heap: Global, sheet: &S) -> Result<usize, AllocError> {
+        (0..sheet.columns()).try_fold(
+            0,
+            |width, column| Ok(self.text(heap, sheet, column)?.len().max(width)),
+        )
+    }
 
-fn held_line<S: System>(heap: Global, sheet: &S) -> Result<Line, AllocError> {
-    Ok(Line {
-        head: String::new(heap),
-        texts: (0..sheet.columns())
-            .map(|column| held_text(heap, sheet, column))
-            .try_collect(heap)?,
-    })
-}
-
-fn row_line<S: System>(heap: Global, sheet: &S, row: usize) -> Result<Line, AllocError> {
-    Ok(Line {
-        head: format!(in heap; "  row {row:2}")?,
-        texts: (0..sheet.columns())
-            .map(|column| cell_text(heap, sheet, row, column))
-            .try_collect(heap)?,
-    })
+    fn text<S: System>(self, heap: Global, sheet: &S, column: usize) -> Result<String, AllocError> {
+        match self {
+            Line::Names => format!(in heap; "column {column}"),
+            Line::Held => held_text(heap, sheet, column),
+            Line::Row(row) => cell_text(heap, sheet, row, column),
+        }
+    }
 }
 
 // A text, and not an `impl Display`, since it is padded as a whole.

@@ -51,12 +51,8 @@ impl Interval {
         ensures laws { ProductLaws }
         ensures examples { Examples }
     {
-        let classes = (self.class(), other.class());
-        Ok(product_by(
-            classes,
-            Operands::try_from(self)?,
-            Operands::try_from(other)?,
-        ))
+        let (x, y) = (Operands::try_from(self)?, Operands::try_from(other)?);
+        Ok(product_by((self.class(), other.class()), x, y))
     }
 }
 

@@ -43,14 +43,22 @@ impl<'a, L: Layer, S: System> Stack<'a, L, S> {
         Stack { layers, bottom }
     }
 
+    // The bottom's: no layer changes them.
+    pub(crate) fn counts(&self) -> Counts
+        ensures rows { result.rows ≡ (S.System.meaning self.now.bottom.now).rows }
+        ensures columns { result.columns ≡ (S.System.meaning self.now.bottom.now).columns }
+    {
+        Counts {
+            rows: self.bottom.rows(),
+            columns: self.bottom.columns(),
+        }
+    }
+
     pub(crate) fn shape(&self) -> Shape
         ensures { extent result ≡ extent_of (laid L.Layer.view self.now.layers.now (S.System.meaning self.now.bottom.now)) }
     {
         let bottom = Shape {
-            counts: Counts {
-                rows: self.bottom.rows(),
-                columns: self.bottom.columns(),
-            },
+            counts: self.counts(),
             reach: self.bottom.reach(),
         };
         self.layers.iter().rev().fold(

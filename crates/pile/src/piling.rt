@@ -6,7 +6,7 @@ ghost use Rattle.pile.specs.Laws.{bounded_laid, checks_handed, places_handed};
 use crate::descent::{Put, Stack, put_at};
 use interval::{Interval, Refusal};
 use layer::Layer;
-use system::{PutFault, Sheet, System};
+use system::{Held, PutFault, Sheet, System};
 
 // The layers stand in the list with the topmost first, as the layers of a fault are counted.
 #[derive(Drop)]
@@ -56,13 +56,21 @@ impl<L: Layer, S: Sheet> Sheet for Pile<L, S> {
         put_at(&self.layers, &mut self.bottom, Put { row, column, value })
     }
 
+    // Refused before the way down, which asks layers for their reach; so in `free`.
+    #[tactic(auto, using(crate::proofs::Layers::laid_columns))]
     fn hold(&mut self, column: usize, number: i64) -> Result<(), Refusal> {
-        let landing = self.stack().landing(column);
+        let stack = self.stack();
+        stack.counts().column(column)?;
+        Held::try_from(number)?;
+        let landing = stack.landing(column);
         self.bottom.hold(landing.column, landing.signed(number))
     }
 
+    #[tactic(auto, using(crate::proofs::Layers::laid_columns))]
     fn free(&mut self, column: usize) -> Result<(), Refusal> {
-        let landing = self.stack().landing(column);
+        let stack = self.stack();
+        stack.counts().column(column)?;
+        let landing = stack.landing(column);
         self.bottom.free(landing.column)
     }
 }

@@ -26,9 +26,10 @@ impl Part {
         self.value == BLANK
     }
 
+    // The place first: that tells most slots by one comparison.
     pub(crate) fn stands_at(&self, place: Place) -> bool
         ensures { result ≡ stands_at_of place.row place.column self.now }
     {
-        !self.is_empty() && self.place == place
+        self.place == place && !self.is_empty()
     }
 }

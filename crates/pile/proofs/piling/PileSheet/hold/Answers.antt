@@ -5,7 +5,7 @@ use Rattle.pile.proofs.piling.PileSheet.hold.Goals as goal
 
 pub returns : goal.returns
 returns g c =
-    let column = rw (c.stack.ensures.0, c.stack.ensures.1) at c.landing-landing.ensures in
+    let column = rw (c.stack-stack.ensures.0, c.stack-stack.ensures.1) at c.landing-landing.ensures in
     let before = state (g.S.System.meaning c.args.self.now.bottom) (g.S.Sheet.refuses c.args.self.now.bottom) in
     let after = state (g.S.System.meaning c.hold.new.self) (g.S.Sheet.refuses c.hold.new.self) in
     let below = same_number c.landing-landing.result.negated c.args.number c.signed.result (search rules) (search rules) before after c.landing-landing.result.column c.hold.result (search rules) in
