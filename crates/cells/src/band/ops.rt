@@ -47,7 +47,7 @@ impl Band {
         ensures { result ≡ keeps self.now place.row place.column }
     {
         let (row, column) = (place.row, place.column);
-        column == self.last || (column <= row + self.width && row <= column + self.width)
+        column == self.last || column.abs_diff(row) <= self.width
     }
 
     fn slot(&self, place: Place) -> usize
